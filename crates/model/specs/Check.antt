@@ -1,0 +1,88 @@
+-- "Checking a table gives the total": the ordered choice of refusals 1 to 11. Assumes nothing: these are definitions.
+use Prim.Native.Nat.{ℕ, zero, suc, _+_, _-_}
+use mathlib.Core.Path.{_≡_}
+use mathlib.Core.Bool.{Bool, true, false, _&&_, _||_, not}
+use mathlib.Core.List.{List, [], _∷_}
+use lib.ListN.{length, getD}
+use lib.Dec.{eqb, ltb, leb}
+use Rattle.model.specs.Answers.{Outcome, result, refused}
+use Rattle.model.specs.Choice.{if_then_else_, firstFaulty, anyBelow}
+use Rattle.model.specs.Table.{Row, Table, rowStart, howManyRows, rowNumbered, countAt, rowIs, acceptingStates, tableOf}
+use Rattle.model.specs.Count.{count, total, longest}
+
+-- every one of the numbers is below n
+unfoldable pub allBelow : ℕ → List ℕ → Bool
+allBelow n [] = true
+allBelow n (x ∷ xs) = ltb x n && allBelow n xs
+
+-- "States are numbered from 0."
+abbrev pub isState : ℕ → ℕ → Bool
+isState states q = ltb q states
+
+-- "fewer than three entries left, or fewer arguments left than counted", where a row begins at the entry
+unfoldable pub cut : List ℕ → ℕ → Bool
+cut rows at = ltb (length rows - at) 3 || ltb (length rows - at - 3) (countAt rows at)
+
+-- "a row beyond the 1,024th, or more than 16 arguments": row i with n arguments
+unfoldable pub tooMany : (i n : ℕ) → Bool
+tooMany i n = leb 1024 i || ltb 16 n
+
+-- "symbol 0 or above 255, or a target or argument that is no state": a number below the count of states is a state
+unfoldable pub outOfRange : ℕ → Row → Bool
+outOfRange states r = eqb (r .symbol) 0 || ltb 255 (r .symbol) || not (isState states (r .target)) || not (allBelow states (r .args))
+
+-- "an argument not below the target"
+unfoldable pub notBelow : Row → Bool
+notBelow r = not (allBelow (r .target) (r .args))
+
+-- "the symbol and arguments of an earlier row"
+unfoldable pub repeated : List ℕ → ℕ → Bool
+repeated rows i = anyBelow i (λ j. rowIs (rowNumbered rows j) (rowNumbered rows i .symbol) (rowNumbered rows i .args))
+
+-- "Within a row, in this order"
+unfoldable pub rowGround : (states : ℕ) (rows : List ℕ) → ℕ → ℕ
+rowGround states rows i =
+    if cut rows (rowStart rows i) then 2 else
+    if tooMany i (countAt rows (rowStart rows i)) then 3 else
+    if outOfRange states (rowNumbered rows i) then 4 else
+    if notBelow (rowNumbered rows i) then 5 else
+    if repeated rows i then 6 else 0
+
+-- "the first entry that is no state or equals an earlier entry is 7, with its place"
+unfoldable pub acceptingGround : (states : ℕ) (accepting : List ℕ) → ℕ → ℕ
+acceptingGround states accepting i =
+    if not (isState states (getD accepting i 0)) || anyBelow i (λ j. eqb (getD accepting j 0) (getD accepting i 0)) then 7 else 0
+
+-- "for each, a count above 4,294,967,295 is 9, and after that a longest tree above 4,096 entries is 10"
+unfoldable pub stateGround : (limit : ℕ) → Table → ℕ → ℕ
+stateGround limit T q =
+    if ltb limit (count T q) then 9 else
+    if ltb 4096 (longest T q) then 10 else 0
+
+-- the check with a limit for counts and the total
+unfoldable pub checkWithin : (limit states : ℕ) (rows accepting : List ℕ) → Outcome
+checkWithin limit states rows accepting =
+    let T = tableOf states rows accepting in
+    -- "First, more than 256 states is 1."
+    if ltb 256 states then refused 1 0 else
+    -- "Then rows are taken in turn, and the first faulty row decides; its row number is the place."
+    firstFaulty (howManyRows rows) (rowGround states rows)
+    -- "Then the accepting list"
+    (firstFaulty (length (acceptingStates accepting)) (acceptingGround states (acceptingStates accepting))
+    -- "a list longer than the count of states is 8" (after 7 none is: the law `entries-few`)
+    (if ltb states (length (acceptingStates accepting)) then refused 8 0 else
+    -- "Then states are taken in turn from 0, the first faulty state decides, and its number is the place"
+    firstFaulty states (stateGround limit T)
+    -- "Last, a total above 4,294,967,295 is 11."
+    (if ltb limit (total T) then refused 11 0 else result (total T))))
+
+abbrev pub countLimit : ℕ
+countLimit = 4294967295
+
+-- what checking a table answers, for any count of states and any two lists
+unfoldable pub checkOutcome : (states : ℕ) (rows accepting : List ℕ) → Outcome
+checkOutcome states rows accepting = checkWithin countLimit states rows accepting
+
+-- the table passes its check, with this total
+abbrev pub Passes : (states : ℕ) (rows accepting : List ℕ) (n : ℕ) → Type 0
+Passes states rows accepting n = checkOutcome states rows accepting ≡ result n
