@@ -1,0 +1,100 @@
+use Prim.Native.Nat.{_+_, _≤_}
+use mathlib.Core.Path.{_≡_, refl, sym, ap, _∙_}
+use native.Mathlib.Omega.{arith}
+use lib.ListN.{length}
+use Rattle.rows.specs.Laid.{Whole}
+use Rattle.rows.specs.Walk.{rowStep}
+use Rattle.rows.proofs.Laws.{uncut, part-is}
+use borrow.Author.Needs.{needs}
+use Rattle.rows.proofs.step_row.Statement.{statement}
+use Rattle.rows.proofs.step_row.Tie as tie
+
+-- past the first test the row is whole
+whole : (c : tie.Else1) → Whole (c .before .before .before .args .rows .now) (c .before .before .before .args .at)
+whole c = uncut _ _ (c .before .before .before .pre) (sym (c .before .is-cut .ensures) ∙ c .if1 .left)
+
+is-cut-requires : tie.Need-is-cut-requires
+is-cut-requires c κs = search needs
+
+returns : tie.Need-returns
+unfolding rowStep
+returns c = simp (sym (c .before .is-cut .ensures) ∙ c .if1 .taken)
+
+add-wide : tie.Need-add-wide
+add-wide c = search needs
+
+mul-wide : tie.Need-mul-wide
+mul-wide c = search needs
+
+shared-slice-read-wide : tie.Need-shared-slice-read-wide
+shared-slice-read-wide c = omega (arith, whole (c .before))
+
+wide-requires : tie.Need-wide-requires
+wide-requires c κs = search needs
+
+is-too-many-requires : tie.Need-is-too-many-requires
+is-too-many-requires c κs = search needs
+
+returns-2 : tie.Need-returns-2
+unfolding rowStep
+returns-2 c = simp (sym (c .before .before .before .before .before .is-cut .ensures) ∙ c .before .before .before .before .if1 .left, ← (c .before .before .wide .ensures), sym (c .before .is-too-many .ensures) ∙ c .if2 .taken)
+
+add-from : tie.Need-add-from
+add-from c = search needs
+
+add-end : tie.Need-add-end
+add-end c = omega (arith, whole (c .before .before .before .before), c .before .before .wide .ensures)
+
+mul-args : tie.Need-mul-args
+mul-args c = search needs
+
+sub-args : tie.Need-sub-args
+sub-args c = search needs
+
+part-args-start : tie.Need-part-args-start
+part-args-start c = search needs
+
+part-args-end : tie.Need-part-args-end
+part-args-end c = omega (arith, whole (c .before .before .before .before), c .before .before .wide .ensures)
+
+is-out-of-range-requires : tie.Need-is-out-of-range-requires
+is-out-of-range-requires c κs = (whole (c .before .before .before .before .before), part-is _ _ _ _ refl (c .before .before .before .wide .ensures))
+
+returns-3 : tie.Need-returns-3
+unfolding rowStep
+returns-3 c = simp (sym (c .before .before .before .before .before .before .before .before .is-cut .ensures) ∙ c .before .before .before .before .before .before .before .if1 .left, ← (c .before .before .before .before .before .wide .ensures), sym (c .before .before .before .before .is-too-many .ensures) ∙ c .before .before .before .if2 .left, sym (c .before .is-out-of-range .ensures) ∙ c .if3 .taken)
+
+is-not-below-requires : tie.Need-is-not-below-requires
+is-not-below-requires c κs = (whole (c .before .before .before .before .before .before .before), part-is _ _ _ _ refl (c .before .before .before .before .before .wide .ensures))
+
+returns-4 : tie.Need-returns-4
+unfolding rowStep
+returns-4 c = simp (sym (c .before .before .before .before .before .before .before .before .before .before .is-cut .ensures) ∙ c .before .before .before .before .before .before .before .before .before .if1 .left, ← (c .before .before .before .before .before .before .before .wide .ensures), sym (c .before .before .before .before .before .before .is-too-many .ensures) ∙ c .before .before .before .before .before .if2 .left, sym (c .before .before .before .is-out-of-range .ensures) ∙ c .before .before .if3 .left, sym (c .before .is-not-below .ensures) ∙ c .if4 .taken)
+
+returns-5 : tie.Need-returns-5
+unfolding rowStep
+returns-5 c = simp (sym (c .before .before .before .before .before .before .before .before .before .before .is-cut .ensures) ∙ c .before .before .before .before .before .before .before .before .before .if1 .left, ← (c .before .before .before .before .before .before .before .wide .ensures), sym (c .before .before .before .before .before .before .is-too-many .ensures) ∙ c .before .before .before .before .before .if2 .left, sym (c .before .before .before .is-out-of-range .ensures) ∙ c .before .before .if3 .left, sym (c .before .is-not-below .ensures) ∙ c .if4 .left)
+
+pub step-row-spec : {M : Type 1} → statement M
+step-row-spec =
+    tie.close
+    (tie.spec
+    is-cut-requires
+    returns
+    add-wide
+    mul-wide
+    shared-slice-read-wide
+    wide-requires
+    is-too-many-requires
+    returns-2
+    add-from
+    add-end
+    mul-args
+    sub-args
+    part-args-start
+    part-args-end
+    is-out-of-range-requires
+    returns-3
+    is-not-below-requires
+    returns-4
+    returns-5)
