@@ -1,0 +1,4 @@
+pub mod Kept
+pub mod Chain
+pub mod States
+pub mod All

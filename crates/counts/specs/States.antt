@@ -1,0 +1,85 @@
+-- Counts and longest trees, state by state, kept to a limit. Assumes nothing: these are definitions.
+use Prim.Native.Nat.{ℕ, zero, suc, _+_, _*_, _<_, _≤_, min, max}
+use mathlib.Core.Path.{_≡_}
+use mathlib.Core.List.{List, [], _∷_, map}
+use lib.ListN.{length, getD, take}
+use lib.Dec.{ltb}
+use Rattle.model.specs.declared.Kind.{Kind}
+use Rattle.model.specs.Answers.{kindNumber}
+use Rattle.model.specs.Choice.{if_then_else_}
+use Rattle.model.specs.Table.{Row, Table, rowsOf, tableOf, howManyRows, rowNumbered}
+use Rattle.model.specs.Count.{sum, product, weight, stateCounts, stateLongest, count, longest}
+use Rattle.model.specs.Value.{earlierRows}
+use Rattle.model.specs.Check.{countLimit, stateGround}
+use Rattle.counts.specs.declared.Counted.{Counted}
+use Rattle.counts.specs.declared.StateFault.{StateFault}
+use Rattle.counts.specs.declared.StateFault.the-variants.{At, Nothing}
+use Rattle.rows.specs.Laid.{Laid}
+use Rattle.counts.specs.Chain.{target, InOrder, Chained}
+
+-- the first number above the limit: what is kept to it is right below it, and above the limit where it should be
+abbrev pub ceiling : ℕ
+ceiling = 4294967296
+
+-- what a list holds for each state
+abbrev pub held : List ℕ → ℕ → ℕ
+held xs q = getD xs q 0
+
+-- every argument has a place in the list, and what stands there is at most the bound
+pub record Within (bound : ℕ) (xs args : List ℕ) : Type 0 where
+  pub placed : (k : ℕ) → k < length args → getD args k 0 < 256
+  pub small : (k : ℕ) → k < length args → held xs (getD args k 0) ≤ bound
+
+-- the longer of what was found and a row's longest tree, where the row has trees
+abbrev pub longer : (long w : ℕ) (ls args : List ℕ) → ℕ
+longer long w ls args = max long (if ltb 0 w then 2 + sum (map (held ls) args) else 0)
+
+-- one state: its count and its longest tree, from what is held for the states below it, and for each of its rows the sum of those before it
+pub record Summed (rows cs ls : List ℕ) (q : ℕ) (sums₀ sums : List ℕ) (r : Counted) : Type 0 where
+  pub count : r .count ≡ min (stateCounts (rowsOf rows) (held cs) q) ceiling
+  pub longest : r .longest ≡ stateLongest (rowsOf rows) (held cs) (held ls) q
+  pub long : length sums ≡ 1024
+  pub mine : (k : ℕ) → k < howManyRows rows → target rows k ≡ q → getD sums k 0 ≡ min (earlierRows (rowsOf rows) (held cs) q k) ceiling
+  pub others : (k : ℕ) → (target rows k ≡ q → ⊥) → getD sums k 0 ≡ getD sums₀ k 0
+
+-- the table of the rows; no count depends on the accepting list
+abbrev pub rowTable : ℕ → List ℕ → Table
+rowTable states rows = tableOf states rows []
+
+-- the states below q are counted, and none of them is faulty
+pub record Known (states : ℕ) (rows : List ℕ) (q : ℕ) (cs ls sums : List ℕ) : Type 0 where
+  pub cs-long : length cs ≡ 256
+  pub ls-long : length ls ≡ 256
+  pub sums-long : length sums ≡ 1024
+  pub counts : (a : ℕ) → a < q → held cs a ≡ count (rowTable states rows) a
+  pub longests : (a : ℕ) → a < q → held ls a ≡ longest (rowTable states rows) a
+  pub fine : (a : ℕ) → a < q → stateGround countLimit (rowTable states rows) a ≡ 0
+  pub earlier : (k : ℕ) → k < howManyRows rows → target rows k < q → getD sums k 0 ≡ earlierRows (rowsOf rows) (count (rowTable states rows)) (target rows k) k
+
+-- all states are counted, or the first faulty one is found
+pub record CountedStates (states : ℕ) (rows : List ℕ) (cs ls sums : List ℕ) (r : StateFault) : Type 0 where
+  pub all : r ≡ Nothing → Known states rows states cs ls sums
+  pub fault : (q : ℕ) (k : Kind) → r ≡ At q k
+      → (q < states) × ((a : ℕ) → a < q → stateGround countLimit (rowTable states rows) a ≡ 0) × (stateGround countLimit (rowTable states rows) q ≡ kindNumber k)
+
+-- what the states are counted from: rows that stand at their offsets, in order, chained by target
+pub record Given (states : ℕ) (rows offsets first after : List ℕ) : Type 0 where
+  pub laid : Laid rows offsets (howManyRows rows)
+  pub ordered : InOrder states rows (howManyRows rows)
+  pub chained : Chained rows 0 (howManyRows rows) first after
+
+-- what one state is counted from: the arguments of its rows have counts and longest trees within the limits
+pub record Countable (rows offsets first after cs ls sums : List ℕ) (q : ℕ) : Type 0 where
+  pub laid : Laid rows offsets (howManyRows rows)
+  pub chained : Chained rows 0 (howManyRows rows) first after
+  pub state : q < 256
+  pub sums-long : length sums ≡ 1024
+  pub short : (r : ℕ) → r < howManyRows rows → target rows r ≡ q → length (rowNumbered rows r .args) ≤ 16
+  pub counted : (r : ℕ) → r < howManyRows rows → target rows r ≡ q → Within 4294967295 cs (rowNumbered rows r .args)
+  pub measured : (r : ℕ) → r < howManyRows rows → target rows r ≡ q → Within 4096 ls (rowNumbered rows r .args)
+
+pub record Ready (states : ℕ) (rows offsets first after cs ls sums : List ℕ) : Type 0 where
+  pub given : Given states rows offsets first after
+  pub cs-long : length cs ≡ 256
+  pub ls-long : length ls ≡ 256
+  pub sums-long : length sums ≡ 1024

@@ -1,0 +1,173 @@
+// Counts of states and their longest trees, state by state.
+use model::Kind;
+ghost use mathlib.Core.Path.{_≡_};
+ghost use Prim.Native.Nat.{ℕ, _+_, _*_, _<_, _≤_, min, max};
+ghost use mathlib.Core.List.{map};
+ghost use lib.ListN.{length};
+ghost use Rattle.model.specs.Table.{howManyRows};
+ghost use Rattle.model.specs.Count.{sum, product};
+ghost use Rattle.rows.specs.Laid.{Laid};
+ghost use Rattle.counts.specs.Chain.{target, Chained, Unchained};
+ghost use Rattle.counts.specs.States.{ceiling, held, Within, longer, Summed, Countable, Ready, CountedStates};
+
+// What a state counts, kept to one above the limit, and how many entries its longest tree has.
+pub struct Counted {
+    pub count: u64,
+    pub longest: u64,
+}
+
+// The first faulty state, or nothing.
+pub enum StateFault {
+    At(usize, Kind),
+    Nothing,
+}
+
+// A product kept to one above the limit: 0 stays 0, and what is above the limit stays above.
+fn times(w: u64, c: u64) -> u64
+    requires { ⌜ (w ≤ ceiling) × (c < ceiling) ⌝ }
+    ensures { λ r. ⌜ r ≡ min (w * c) ceiling ⌝ }
+{
+    let p = w * c;
+    if 4294967296 < p { 4294967296 } else { p }
+}
+
+// A sum kept to one above the limit.
+pub fn plus(a: u64, b: u64) -> u64
+    requires { ⌜ (a ≤ ceiling) × (b ≤ ceiling) ⌝ }
+    ensures { λ r. ⌜ r ≡ min (a + b) ceiling ⌝ }
+{
+    let s = a + b;
+    if 4294967296 < s { 4294967296 } else { s }
+}
+
+// What a row with these arguments counts, kept to one above the limit.
+fn row_count(args: &[u16], counts: &[u64; 256]) -> u64
+    requires { ⌜ Within 4294967295 (now counts) (now args) ⌝ }
+    ensures { λ r. ⌜ r ≡ min (product (map (held (now (counts .entry))) (now (args .entry)))) ceiling ⌝ }
+{
+    let mut w: u64 = 1;
+    let mut i: usize = 0;
+    while i < args.len() {
+        w = times(w, counts[rows::wide(args[i])]);
+        i += 1;
+    }
+    w
+}
+
+// How many entries the longest tree of a row with these arguments has.
+fn row_length(args: &[u16], longest: &[u64; 256]) -> u64
+    requires { ⌜ (length (now args) ≤ 16) × Within 4096 (now longest) (now args) ⌝ }
+    ensures { λ r. ⌜ r ≡ 2 + sum (map (held (now (longest .entry))) (now (args .entry))) ⌝ }
+{
+    let mut n: u64 = 2;
+    let mut i: usize = 0;
+    while i < args.len() {
+        n += longest[rows::wide(args[i])];
+        i += 1;
+    }
+    n
+}
+
+// The longer of what was found and the longest tree of a row that counts w.
+fn longer_of(long: u64, w: u64, args: &[u16], longest: &[u64; 256]) -> u64
+    requires { ⌜ (length (now args) ≤ 16) × Within 4096 (now longest) (now args) ⌝ }
+    ensures { λ r. ⌜ r ≡ longer long w (now (longest .entry)) (now (args .entry)) ⌝ }
+{
+    if w == 0 {
+        return long;
+    }
+    let n = row_length(args, longest);
+    if long < n {
+        return n;
+    }
+    long
+}
+
+// Chains the first n rows by their targets, in their order.
+pub fn chain_rows(
+    rows: &[u16],
+    offsets: &[u16; 1024],
+    n: usize,
+    first: &mut [u16; 256],
+    after: &mut [u16; 1024],
+)
+    requires { ⌜ Laid (now rows) (now offsets) n ⌝ }
+    requires { ⌜ ((r : ℕ) → r < n → target (now rows) r < 256) ⌝ }
+    requires { ⌜ Unchained (now first) (now after) ⌝ }
+    ensures { λ _. ⌜ Chained (now (rows .entry)) 0 n (now (first .exit)) (now (after .exit)) ⌝ }
+{
+    let mut m = n;
+    while 0 < m {
+        m -= 1;
+        let t = rows::wide(rows[rows::wide(offsets[m]) + 1]);
+        after[m] = first[t];
+        first[t] = (m + 1) as u16;
+    }
+}
+
+// Counts state q by its rows, and puts for each of them the sum of those before it.
+fn count_state(
+    rows: &[u16],
+    offsets: &[u16; 1024],
+    first: &[u16; 256],
+    after: &[u16; 1024],
+    counts: &[u64; 256],
+    longest: &[u64; 256],
+    sums: &mut [u64; 1024],
+    q: usize,
+) -> Counted
+    requires { ⌜ Countable (now rows) (now offsets) (now first) (now after) (now counts) (now longest) (now sums) q ⌝ }
+    ensures { λ r. ⌜ Summed (now (rows .entry)) (now (counts .entry)) (now (longest .entry)) q (now (sums .entry)) (now (sums .exit)) r ⌝ }
+{
+    let mut count: u64 = 0;
+    let mut long: u64 = 0;
+    let mut p = rows::wide(first[q]);
+    while 0 < p {
+        let r = p - 1;
+        let at = rows::wide(offsets[r]);
+        let from = at + 3;
+        let end = from + rows::wide(rows[at + 2]);
+        let args = &rows[from..end];
+        sums[r] = count;
+        let w = row_count(args, counts);
+        count = plus(count, w);
+        long = longer_of(long, w, args, longest);
+        p = rows::wide(after[r]);
+    }
+    Counted {
+        count: count,
+        longest: long,
+    }
+}
+
+// Counts the states in turn from 0, up to the first whose count or longest tree is above its limit.
+pub fn count_states(
+    states: usize,
+    rows: &[u16],
+    offsets: &[u16; 1024],
+    first: &[u16; 256],
+    after: &[u16; 1024],
+    counts: &mut [u64; 256],
+    longest: &mut [u64; 256],
+    sums: &mut [u64; 1024],
+) -> StateFault
+    requires { ⌜ Ready states (now rows) (now offsets) (now first) (now after) (now counts) (now longest) (now sums) ⌝ }
+    ensures { λ r. ⌜ CountedStates states (now (rows .entry)) (now (counts .exit)) (now (longest .exit)) (now (sums .exit)) r ⌝ }
+{
+    let mut q: usize = 0;
+    while q < states {
+        let s = count_state(rows, offsets, first, after, &*counts, &*longest, sums, q);
+        let count = s.count;
+        let long = s.longest;
+        if 4294967295 < count {
+            return StateFault::At(q, Kind::CountAboveLimit);
+        }
+        if 4096 < long {
+            return StateFault::At(q, Kind::LongestTreeAboveLimit);
+        }
+        counts[q] = count;
+        longest[q] = long;
+        q += 1;
+    }
+    StateFault::Nothing
+}
