@@ -1,0 +1,3 @@
+pub mod Entries
+pub mod Rows
+pub mod Outcomes

@@ -1,0 +1,174 @@
+-- Laws of the check's outcome, part by part. Assumes nothing.
+use Prim.Native.Nat.{ℕ, zero, suc, _+_, _<_, _≤_, min}
+use mathlib.Core.Path.{_≡_, refl, sym, ap, _∙_}
+use mathlib.Core.List.{List, [], map}
+use native.Mathlib.Omega.{arith}
+use lib.ListN.{length, getD}
+use borrow.Author.Tests.{lt-ltb, le-ltb}
+use Rattle.model.specs.declared.Kind.{Kind}
+use Rattle.model.specs.declared.Kind.the-variants.{TotalAboveLimit}
+use Rattle.model.specs.Answers.{Outcome, result, refused, kindNumber}
+use Rattle.model.specs.Choice.{if_then_else_, firstFaulty}
+use Rattle.model.specs.Table.{rowNumbered, rowStart, howManyRows, tableOf}
+use Rattle.model.specs.Count.{sum, count, longest, total}
+use Rattle.model.specs.Check.{rowGround, acceptingGround, stateGround, checkWithin, checkOutcome, countLimit}
+use Rattle.model.proofs.Choice.{no-fault, first-fault}
+use Rattle.model.proofs.Counting.{map-agree}
+use Rattle.model.proofs.Rows.{args-length}
+use Rattle.model.proofs.Checked.{GoodRow, row-good, entry-good, state-good}
+use Rattle.rows.specs.Laid.{Laid}
+use Rattle.index.specs.Index.{Index}
+use Rattle.counts.specs.declared.StateFault.the-variants.{At, Nothing}
+use Rattle.counts.specs.Chain.{target, InOrder, Chained}
+use Rattle.counts.specs.States.{ceiling, held, Within, rowTable, Known, CountedStates}
+use Rattle.table.specs.declared.Checked.{Checked}
+use Rattle.table.specs.declared.Checked.the-variants.{Passes, Refuses}
+use Rattle.table.specs.Checked.{AllFine, FirstAt, told, refusesAt, statesOutcome, acceptingOutcome, StatesAnswer, Prepared, CheckAnswer}
+use Rattle.model.proofs.Numbers.{kind-positive}
+
+-- rows without fault are in order
+pub in-order : (states : ℕ) (rows : List ℕ) (n : ℕ) → states ≤ 256 → AllFine n (rowGround states rows) → InOrder states rows n
+in-order states rows n few fine = record {
+  few = few;
+  short = λ r lt. let g = row-good states rows r (fine r lt) in omega (arith, args-length rows (rowStart rows r) (g .whole), g .few-args);
+  known = λ r lt. row-good states rows r (fine r lt) .in-range .target-fits;
+  lower = λ r lt. row-good states rows r (fine r lt) .ordered;
+}
+
+pub chained-all : {rows first after : List ℕ} {n m : ℕ} → n ≡ m → Chained rows 0 n first after → Chained rows 0 m first after
+chained-all e c = rw e at c
+
+pub all-fine : {ground : ℕ → ℕ} {n m : ℕ} → n ≡ m → AllFine n ground → AllFine m ground
+all-fine e f = rw e at f
+
+-- no state's ground depends on the accepting list
+ground-same : (states : ℕ) (rows accepting : List ℕ) (q : ℕ) → stateGround countLimit (tableOf states rows accepting) q ≡ stateGround countLimit (rowTable states rows) q
+unfolding stateGround count longest
+ground-same states rows accepting q = refl
+
+-- the accepting states have counts within the limit
+pub entries-within : {states : ℕ} {rows accepting cs ls sums : List ℕ} → states ≤ 256 → AllFine (length accepting) (acceptingGround states accepting)
+    → Known states rows states cs ls sums → Within 4294967295 cs accepting
+entries-within {states} {rows} {accepting} {cs} {ls} {sums} few fine x = record {
+  placed = λ k lt. omega (arith, entry-good states accepting k (fine k lt) .0);
+  small = λ k lt. small (getD accepting k 0) (entry-good states accepting k (fine k lt) .0);
+}
+  where
+    small : (a : ℕ) → a < states → held cs a ≤ 4294967295
+    small a l = rw (x .counts a l) (state-good countLimit (rowTable states rows) a (x .fine a l) .0)
+
+total-same : (states : ℕ) (rows accepting cs : List ℕ) → ((k : ℕ) → k < length accepting → held cs (getD accepting k 0) ≡ count (rowTable states rows) (getD accepting k 0))
+    → sum (map (held cs) accepting) ≡ total (tableOf states rows accepting)
+unfolding total count
+total-same states rows accepting cs e = ap sum (map-agree (held cs) (count (rowTable states rows)) 0 accepting e)
+
+apart : {A : Type 0} (k : Kind) (p t m : ℕ) (r : Checked) → r ≡ refusesAt k p → r ≡ Passes t m → A
+apart k p t m r e h = let z : _≡_ {A = ℕ} 0 1 = cc in absurd (omega arith)
+
+-- a faulty state: 9 or 10
+fault-is : (states : ℕ) (rows accepting : List ℕ) (q : ℕ) (k : Kind)
+    → (q < states) × ((a : ℕ) → a < q → stateGround countLimit (rowTable states rows) a ≡ 0) × (stateGround countLimit (rowTable states rows) q ≡ kindNumber k)
+    → refused (kindNumber k) q ≡ statesOutcome states rows accepting
+unfolding statesOutcome
+fault-is states rows accepting q k f =
+    let g : stateGround countLimit (tableOf states rows accepting) q ≡ kindNumber k = ground-same states rows accepting q ∙ f .2 in
+    ap (λ (v : ℕ). refused v q) (sym g)
+    ∙ sym (first-fault states q (stateGround countLimit (tableOf states rows accepting)) _ (f .0) (λ j l. ground-same states rows accepting j ∙ f .1 j l) (rw g (kind-positive k)))
+
+-- no faulty state: the total decides
+module _ (states : ℕ) (rows accepting cs ls sums : List ℕ) (fine : AllFine (length accepting) (acceptingGround states accepting)) (x : Known states rows states cs ls sums)
+    (t : ℕ) (e : t ≡ min (sum (map (held cs) accepting)) ceiling) where
+  total-kept : t ≡ min (total (tableOf states rows accepting)) ceiling
+  total-kept = e ∙ ap (λ (v : ℕ). min v ceiling) (total-same states rows accepting cs (λ k lt. x .counts (getD accepting k 0) (entry-good states accepting k (fine k lt) .0)))
+
+  states-clear : (o : Outcome) → firstFaulty states (stateGround countLimit (tableOf states rows accepting)) o ≡ o
+  states-clear o = no-fault states (stateGround countLimit (tableOf states rows accepting)) o (λ a l. ground-same states rows accepting a ∙ x .fine a l)
+
+  -- above the limit: 11
+  over-is : 4294967295 < t → refused 11 0 ≡ statesOutcome states rows accepting
+  unfolding statesOutcome
+  over-is gt = rw (states-clear _, lt-ltb countLimit (total (tableOf states rows accepting)) (omega (arith, total-kept)))
+
+  pass-is : t ≤ 4294967295 → result t ≡ statesOutcome states rows accepting
+  unfolding statesOutcome
+  pass-is le =
+      let y : t ≡ total (tableOf states rows accepting) = omega (arith, total-kept) in
+      rw (states-clear _, le-ltb countLimit (total (tableOf states rows accepting)) (omega (arith, total-kept)), y)
+
+-- the answer from the states on, refused or with the total
+module _ (states : ℕ) (rows accepting : List ℕ) (n : ℕ) (first after cs ls sums : List ℕ) where
+  states-refused : (k : Kind) (p : ℕ) (r : Checked) → r ≡ refusesAt k p → refused (kindNumber k) p ≡ statesOutcome states rows accepting
+      → StatesAnswer states rows accepting n first after cs ls sums r
+  states-refused k p r e h = record {
+    answer = ap told e ∙ h;
+    rows-are = λ t m z. apart k p t m r e z;
+    chained = λ t m z. apart k p t m r e z;
+    known = λ t m z. apart k p t m r e z;
+  }
+
+  pub states-fault : (q : ℕ) (k : Kind) (r : Checked) → r ≡ refusesAt k q
+      → (q < states) × ((a : ℕ) → a < q → stateGround countLimit (rowTable states rows) a ≡ 0) × (stateGround countLimit (rowTable states rows) q ≡ kindNumber k)
+      → StatesAnswer states rows accepting n first after cs ls sums r
+  states-fault q k r e f = states-refused k q r e (fault-is states rows accepting q k f)
+
+  module _ (fine : AllFine (length accepting) (acceptingGround states accepting)) (x : Known states rows states cs ls sums) (t : ℕ) (e : t ≡ min (sum (map (held cs) accepting)) ceiling) where
+    pub states-over : (r : Checked) → 4294967295 < t → r ≡ refusesAt TotalAboveLimit 0 → StatesAnswer states rows accepting n first after cs ls sums r
+    states-over r gt h = states-refused TotalAboveLimit 0 r h (over-is states rows accepting cs ls sums fine x t e gt)
+
+    pub states-pass : t ≤ 4294967295 → Chained rows 0 n first after → StatesAnswer states rows accepting n first after cs ls sums (Passes t n)
+    states-pass le c = record {
+      answer = pass-is states rows accepting cs ls sums fine x t e le;
+      rows-are = λ t′ m z. let y : n ≡ m = cc in sym y;
+      chained = λ t′ m z. c;
+      known = λ t′ m z. x;
+    }
+
+-- the ordered choice, one ground after the other
+module _ (states : ℕ) (rows accepting : List ℕ) where
+  pub too-many : 256 < states → refused 1 0 ≡ checkOutcome states rows accepting
+  unfolding checkOutcome checkWithin
+  too-many gt = rw (lt-ltb 256 states gt)
+
+  module _ (few : states ≤ 256) where
+    pub row-refused : (i k : ℕ) → FirstAt (howManyRows rows) (rowGround states rows) i k → 0 < k → refused k i ≡ checkOutcome states rows accepting
+    unfolding checkOutcome checkWithin
+    row-refused i k f pos =
+        rw (le-ltb 256 states few) (ap (λ (v : ℕ). refused v i) (sym (f .here))
+        ∙ sym (first-fault (howManyRows rows) i (rowGround states rows) _ (f .inside) (f .before) (rw (f .here) pos)))
+
+    pub rows-passed : AllFine (howManyRows rows) (rowGround states rows) → acceptingOutcome states rows accepting ≡ checkOutcome states rows accepting
+    unfolding checkOutcome checkWithin acceptingOutcome statesOutcome
+    rows-passed fine = rw (le-ltb 256 states few) (sym (no-fault (howManyRows rows) (rowGround states rows) _ fine))
+
+  pub entry-refused : (i : ℕ) → FirstAt (length accepting) (acceptingGround states accepting) i 7 → refused 7 i ≡ acceptingOutcome states rows accepting
+  unfolding acceptingOutcome
+  entry-refused i f =
+      ap (λ (v : ℕ). refused v i) (sym (f .here))
+      ∙ sym (first-fault (length accepting) i (acceptingGround states accepting) _ (f .inside) (f .before) (rw (f .here) (omega arith)))
+
+  module _ (fine : AllFine (length accepting) (acceptingGround states accepting)) where
+    pub list-refused : states < length accepting → refused 8 0 ≡ acceptingOutcome states rows accepting
+    unfolding acceptingOutcome
+    list-refused gt = rw (no-fault (length accepting) (acceptingGround states accepting) _ fine, lt-ltb states (length accepting) gt)
+
+    pub entries-passed : length accepting ≤ states → statesOutcome states rows accepting ≡ acceptingOutcome states rows accepting
+    unfolding acceptingOutcome
+    entries-passed le = rw (no-fault (length accepting) (acceptingGround states accepting) _ fine, le-ltb states (length accepting) le)
+
+  module _ {offsets heads next first after counts longest′ sums : List ℕ} where
+    pub refused-answer : (k : Kind) (p : ℕ) (r : Checked) → r ≡ refusesAt k p → refused (kindNumber k) p ≡ checkOutcome states rows accepting
+        → CheckAnswer states rows accepting offsets heads next first after counts longest′ sums r
+    refused-answer k p r e h = record { answer = ap told e ∙ h; prepared = λ t m z. apart k p t m r e z }
+
+    pub states-answer : (n : ℕ) (r : Checked) → states ≤ 256 → n ≡ howManyRows rows → Laid rows offsets n → Index rows n heads next → AllFine n (rowGround states rows)
+        → AllFine (length accepting) (acceptingGround states accepting) → length accepting ≤ states
+        → StatesAnswer states rows accepting n first after counts longest′ sums r → CheckAnswer states rows accepting offsets heads next first after counts longest′ sums r
+    states-answer n r few all laid index fine entries le x = record {
+      answer = x .answer ∙ entries-passed entries le ∙ rows-passed few (rw all at fine);
+      prepared = λ t m z. ready t m z;
+    }
+      where
+        ready : (t m : ℕ) → r ≡ Passes t m → Prepared states rows offsets heads next first after counts longest′ sums m
+        ready t m z =
+            let y : m ≡ n = x .rows-are t m z in
+            rw y (record { all = all; laid = laid; index = index; chained = x .chained t m z; known = x .known t m z })

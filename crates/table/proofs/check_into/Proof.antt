@@ -1,0 +1,99 @@
+use mathlib.Core.Path.{_≡_, refl, sym, ap, _∙_}
+use native.Mathlib.Omega.{arith}
+use Rattle.model.proofs.Numbers.{kind-positive}
+use Rattle.table.proofs.Outcomes.{all-fine, too-many, row-refused, rows-passed, entry-refused, list-refused, refused-answer, states-answer}
+use borrow.Author.Needs.{needs}
+use Rattle.table.proofs.check_into.Statement.{statement}
+use Rattle.table.proofs.check_into.Tie as tie
+
+refuses-requires : tie.Need-refuses-requires
+refuses-requires c κs = search needs
+
+returns : tie.Need-returns
+returns c = refused-answer _ _ _ _ _ _ (c .refuses .ensures) (too-many _ _ _ (c .before .if1 .taken))
+
+check-rows-requires : tie.Need-check-rows-requires
+check-rows-requires c κs = search needs
+
+enum-known-r : tie.Need-enum-known-r
+enum-known-r c = search needs
+
+refuses-requires-2 : tie.Need-refuses-requires-2
+refuses-requires-2 c κs = search needs
+
+enum-known-n : tie.Need-enum-known-n
+enum-known-n c = search needs
+
+faulty-entry-requires : tie.Need-faulty-entry-requires
+faulty-entry-requires c κs = search needs
+
+enum-known-i : tie.Need-enum-known-i
+enum-known-i c = search needs
+
+refuses-requires-3 : tie.Need-refuses-requires-3
+refuses-requires-3 c κs = search needs
+
+enum-told : tie.Need-enum-told
+enum-told c = search needs
+
+refuses-requires-4 : tie.Need-refuses-requires-4
+refuses-requires-4 c κs = search needs
+
+returns-2 : tie.Need-returns-2
+returns-2 c =
+    let w = c .before .before .before .before .before .before .before .before .check-rows .ensures .passed _ (c .before .before .before .before .before .before .n .given .1) in
+    refused-answer _ _ _ _ _ _ (c .refuses4 .ensures)
+    (list-refused _ _ _ (c .before .before .before .before .faulty-entry .ensures .none (c .before .before .enum-told .given .1)) (c .before .if2 .taken) ∙ rows-passed _ _ _ (c .before .before .before .before .before .before .before .before .before .before .before .before .if1 .left) (all-fine (w .0) (w .3)))
+
+check-states-requires : tie.Need-check-states-requires
+check-states-requires c κs =
+    let s = c .before .before .before .before .before .before .before .before .before .before .before .before .before .before .before .before .before .before .before .before in
+    let w = c .before .before .before .before .before .before .before .before .before .before .before .before .before .check-rows .ensures .passed _ (c .before .before .before .before .before .before .before .before .before .before .before .n .given .1) in
+    record {
+      all = w .0;
+      laid = w .1;
+      few = c .before .before .before .before .before .before .before .before .before .before .before .before .before .before .before .before .before .if1 .left;
+      rows-fine = w .3;
+      entries-fine = c .before .before .before .before .before .before .before .before .before .faulty-entry .ensures .none (c .before .before .before .before .before .before .before .enum-told .given .1);
+      unchained = s .pre .unchained;
+      counts-long = s .pre .counts-long;
+      longest-long = s .pre .longest-long;
+      sums-long = s .pre .sums-long;
+    }
+
+returns-3 : tie.Need-returns-3
+returns-3 c =
+    refused-answer _ _ _ _ _ _ (c .refuses2 .ensures)
+    (row-refused _ _ _ (c .before .before .before .before .before .before .before .before .if1 .left) _ _ (c .before .before .before .before .check-rows .ensures .stopped _ _ (c .before .before .r .given .1)) (kind-positive (c .before .before .r .given .0 .1 .0)))
+
+returns-4 : tie.Need-returns-4
+returns-4 c =
+    let w = c .before .before .before .before .before .before .before .before .check-rows .ensures .passed _ (c .before .before .before .before .before .before .n .given .1) in
+    refused-answer _ _ _ _ _ _ (c .refuses3 .ensures)
+    (entry-refused _ _ _ _ (c .before .before .before .before .faulty-entry .ensures .some _ (c .before .before .i .given .1)) ∙ rows-passed _ _ _ (c .before .before .before .before .before .before .before .before .before .before .before .before .if1 .left) (all-fine (w .0) (w .3)))
+
+returns-5 : tie.Need-returns-5
+returns-5 c =
+    let w = c .before .before .before .before .before .before .before .before .before .before .before .before .before .before .check-rows .ensures .passed _ (c .before .before .before .before .before .before .before .before .before .before .before .before .n .given .1) in
+    states-answer _ _ _ _ _ (c .before .before .before .before .before .before .before .before .before .before .before .before .before .before .before .before .before .before .if1 .left) (w .0) (w .1) (w .2) (w .3) (c .before .before .before .before .before .before .before .before .before .before .faulty-entry .ensures .none (c .before .before .before .before .before .before .before .before .enum-told .given .1)) (c .before .before .before .before .before .before .before .if2 .left) (c .check-states .ensures)
+
+pub check-into-spec : {M : Type 1} → statement M
+check-into-spec =
+    tie.close
+    (tie.spec
+    refuses-requires
+    returns
+    check-rows-requires
+    enum-known-r
+    refuses-requires-2
+    enum-known-n
+    faulty-entry-requires
+    enum-known-i
+    refuses-requires-3
+    enum-told
+    refuses-requires-4
+    returns-2
+    check-states-requires
+    returns-3
+    returns-4
+    returns-5)

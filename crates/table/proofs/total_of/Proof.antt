@@ -1,0 +1,78 @@
+-- The kept sum over the entries passed and the sum over those that are left are together the sum over all, kept to the limit.
+use Prim.Native.Nat.{_<_, _≤_, _+_, _-_, min}
+use mathlib.Core.Path.{_≡_, refl, sym, ap, _∙_}
+use mathlib.Core.List.{map}
+use native.Mathlib.Omega.{arith}
+use native.Mathlib.Nat.{min-le-right}
+use borrow.Author.Needs.{needs}
+use lib.ListN.{length, drop}
+use Rattle.model.specs.Count.{sum}
+use Rattle.counts.specs.States.{held, ceiling}
+use Rattle.counts.proofs.Kept.{kept-goes, kept-ends}
+use Rattle.table.proofs.total_of.Statement.{statement}
+use Rattle.table.proofs.total_of.Tie as tie
+
+abbrev Inv-loop : tie.InvT-loop
+Inv-loop accepting counts total₀ i₀ total i = (total ≤ ceiling) × (min (total + sum (map (held counts) (drop i accepting))) ceiling ≡ min (sum (map (held counts) accepting)) ceiling)
+
+abbrev μ-loop : tie.MeasureT-loop
+μ-loop accepting counts total₀ i₀ total i = length accepting - i
+
+-- the entry at hand has a place among the counts
+placed : (c : tie.After-wide Inv-loop μ-loop) → c .wide .result < 256
+placed c = rw (c .wide .ensures) (c .before .before .before .before .before .pre .placed (c .before .before .before .loop .i) (c .before .before .loop-test .taken))
+
+loop-holds : tie.Need-loop-holds Inv-loop μ-loop
+loop-holds c = (omega arith, omega arith)
+
+mul-wide : tie.Need-mul-wide Inv-loop μ-loop
+mul-wide c = search needs
+
+shared-slice-read-wide : tie.Need-shared-slice-read-wide Inv-loop μ-loop
+shared-slice-read-wide c = search needs
+
+wide-requires : tie.Need-wide-requires Inv-loop μ-loop
+wide-requires c κs = search needs
+
+mul-plus : tie.Need-mul-plus Inv-loop μ-loop
+mul-plus c = omega (arith, placed c)
+
+element-copy-out-plus : tie.Need-element-copy-out-plus Inv-loop μ-loop
+element-copy-out-plus c = placed c
+
+plus-requires : tie.Need-plus-requires Inv-loop μ-loop
+plus-requires c κs = (c .before .before .before .before .loop .inv .0, rw (c .before .wide .ensures) (omega (arith, c .before .before .before .before .before .before .pre .small (c .before .before .before .before .loop .i) (c .before .before .before .loop-test .taken))))
+
+add-i : tie.Need-add-i Inv-loop μ-loop
+add-i c = search needs
+
+loop-less : tie.Need-loop-less Inv-loop μ-loop
+loop-less c = search needs
+
+loop-again : tie.Need-loop-again Inv-loop μ-loop
+loop-again c = (
+  rw (c .plus .ensures) (min-le-right _ _),
+  kept-goes (held (c .before .before .before .before .before .before .before .args .counts .now)) (c .before .before .before .before .before .before .before .args .accepting .now) (c .before .before .before .before .before .loop .i) (c .before .before .before .before .loop-test .taken) ceiling (c .before .before .before .before .before .loop .total) _ _ _
+      (ap (held (c .before .before .before .before .before .before .before .args .counts .now)) (c .before .before .wide .ensures)) (c .plus .ensures) (c .before .before .before .before .before .loop .inv .1),
+)
+
+returns : tie.Need-returns Inv-loop μ-loop
+returns c = kept-ends _ _ _ _ _ _ (c .loop-test .left) (c .before .loop .inv .0) (c .before .loop .inv .1)
+
+pub total-of-spec : {M : Type 1} → statement M
+total-of-spec =
+    tie.close
+    (tie.spec
+    Inv-loop
+    μ-loop
+    loop-holds
+    mul-wide
+    shared-slice-read-wide
+    wide-requires
+    mul-plus
+    element-copy-out-plus
+    plus-requires
+    add-i
+    loop-less
+    loop-again
+    returns)

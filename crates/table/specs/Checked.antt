@@ -1,0 +1,103 @@
+-- The check in its parts, and what a table that passes leaves for numbering and writing. Assumes nothing: these are definitions.
+use Prim.Native.Nat.{ℕ, zero, suc, _+_, _<_, _≤_, min}
+use mathlib.Core.Path.{_≡_}
+use mathlib.Core.List.{List, map}
+use lib.ListN.{length, getD}
+use lib.Dec.{ltb}
+use Rattle.model.specs.declared.Kind.{Kind}
+use Rattle.model.specs.declared.Refusal.{Refusal}
+use Rattle.model.specs.Answers.{Outcome, result, refused, kindNumber}
+use Rattle.model.specs.Choice.{if_then_else_, firstFaulty}
+use Rattle.model.specs.Table.{rowStart, howManyRows, acceptingStates, tableOf}
+use Rattle.model.specs.Count.{total}
+use Rattle.model.specs.Check.{rowGround, acceptingGround, stateGround, checkOutcome, countLimit}
+use Rattle.rows.specs.declared.Found.{Found}
+use Rattle.rows.specs.declared.Found.the-variants.{At, Nothing}
+use Rattle.rows.specs.declared.Walked.{Walked}
+use Rattle.rows.specs.declared.Walked.the-variants.{Passed, Stopped}
+use Rattle.rows.specs.Laid.{Laid}
+use Rattle.index.specs.Index.{Index, Clear}
+use Rattle.counts.specs.Chain.{Chained, Unchained}
+use Rattle.counts.specs.States.{Known, held}
+use Rattle.table.specs.declared.Checked.{Checked}
+use Rattle.table.specs.declared.Checked.the-variants.{Passes, Refuses}
+
+-- all of n things are without a ground
+abbrev pub AllFine : ℕ → (ℕ → ℕ) → Type 0
+AllFine n ground = (i : ℕ) → i < n → ground i ≡ 0
+
+-- thing i is the first of n for which a ground holds, the one of this number
+pub record FirstAt (n : ℕ) (ground : ℕ → ℕ) (i number : ℕ) : Type 0 where
+  pub inside : i < n
+  pub before : AllFine i ground
+  pub here : ground i ≡ number
+
+-- the rows: none is faulty, and they stand at their offsets and in the index; or the first faulty one
+pub record RowsChecked (states : ℕ) (rows offsets heads next : List ℕ) (r : Walked) : Type 0 where
+  pub passed : (n : ℕ) → r ≡ Passed n → (n ≡ howManyRows rows) × Laid rows offsets n × Index rows n heads next × AllFine n (rowGround states rows)
+  pub stopped : (n : ℕ) (k : Kind) → r ≡ Stopped n k → FirstAt (howManyRows rows) (rowGround states rows) n (kindNumber k)
+
+-- the accepting list: no entry is faulty, or the first that is
+pub record EntriesChecked (states : ℕ) (accepting : List ℕ) (r : Found) : Type 0 where
+  pub none : r ≡ Nothing → AllFine (length accepting) (acceptingGround states accepting)
+  pub some : (i : ℕ) → r ≡ At i → FirstAt (length accepting) (acceptingGround states accepting) i 7
+
+-- what a checked answer says
+abbrev pub told : Checked → Outcome
+told (Passes t n) = result t
+told (Refuses r) = refused (kindNumber (r .kind)) (r .place)
+
+-- the check from the states on, and from the accepting list on
+unfoldable pub statesOutcome : (states : ℕ) (rows accepting : List ℕ) → Outcome
+statesOutcome states rows accepting =
+    firstFaulty states (stateGround countLimit (tableOf states rows accepting))
+    (if ltb countLimit (total (tableOf states rows accepting)) then refused 11 0 else result (total (tableOf states rows accepting)))
+
+unfoldable pub acceptingOutcome : (states : ℕ) (rows accepting : List ℕ) → Outcome
+acceptingOutcome states rows accepting =
+    firstFaulty (length (acceptingStates accepting)) (acceptingGround states (acceptingStates accepting))
+    (if ltb states (length (acceptingStates accepting)) then refused 8 0 else statesOutcome states rows accepting)
+
+abbrev pub refusesAt : Kind → ℕ → Checked
+refusesAt k place = Refuses (record { place = place; kind = k })
+
+-- what checking the states starts from: rows and an accepting list without fault, and arrays not yet written
+pub record StatesReady (states : ℕ) (rows accepting : List ℕ) (n : ℕ) (offsets first after counts longest sums : List ℕ) : Type 0 where
+  pub all : n ≡ howManyRows rows
+  pub laid : Laid rows offsets n
+  pub few : states ≤ 256
+  pub rows-fine : AllFine n (rowGround states rows)
+  pub entries-fine : AllFine (length accepting) (acceptingGround states accepting)
+  pub unchained : Unchained first after
+  pub counts-long : length counts ≡ 256
+  pub longest-long : length longest ≡ 256
+  pub sums-long : length sums ≡ 1024
+
+-- what it answers, and what a table that passes leaves: chains by target, counts, and the sums of earlier rows
+pub record StatesAnswer (states : ℕ) (rows accepting : List ℕ) (n : ℕ) (first after counts longest sums : List ℕ) (r : Checked) : Type 0 where
+  pub answer : told r ≡ statesOutcome states rows accepting
+  pub rows-are : (t m : ℕ) → r ≡ Passes t m → m ≡ n
+  pub chained : (t m : ℕ) → r ≡ Passes t m → Chained rows 0 n first after
+  pub known : (t m : ℕ) → r ≡ Passes t m → Known states rows states counts longest sums
+
+-- arrays that have not been written
+pub record Blank (offsets heads next first after counts longest sums : List ℕ) : Type 0 where
+  pub offsets-long : length offsets ≡ 1024
+  pub clear : Clear heads next
+  pub unchained : Unchained first after
+  pub counts-long : length counts ≡ 256
+  pub longest-long : length longest ≡ 256
+  pub sums-long : length sums ≡ 1024
+
+-- what a table of n rows that passes leaves for numbering and writing: offsets, index, chains by target, counts, sums of earlier rows
+pub record Prepared (states : ℕ) (rows offsets heads next first after counts longest sums : List ℕ) (n : ℕ) : Type 0 where
+  pub all : n ≡ howManyRows rows
+  pub laid : Laid rows offsets n
+  pub index : Index rows n heads next
+  pub chained : Chained rows 0 n first after
+  pub known : Known states rows states counts longest sums
+
+-- what the check answers, and what it leaves where the table passes
+pub record CheckAnswer (states : ℕ) (rows accepting offsets heads next first after counts longest sums : List ℕ) (r : Checked) : Type 0 where
+  pub answer : told r ≡ checkOutcome states rows accepting
+  pub prepared : (t n : ℕ) → r ≡ Passes t n → Prepared states rows offsets heads next first after counts longest sums n
