@@ -599,16 +599,17 @@ def large(draw, which):
 
 
 def drawn(seed, count):
+    """Three sound tables of four; each kind of fault alone in turn, and each pair of kinds, in one row and in two."""
     draw = Draw(seed)
     alone = sorted(FAULTS)
     pairs = [(a, b) for a in alone for b in alone if a < b]
     for n in range(count):
         if n % 100 == 99:
             t = large(draw, n // 100)
-        elif n % 4 == 1:
-            t = faulty(draw, [alone[n // 4 % len(alone)]], False)
-        elif n % 4 == 3:
-            t = faulty(draw, pairs[n // 4 % len(pairs)], n // 4 // len(pairs) % 2 == 0)
+        elif n % 8 == 2:
+            t = faulty(draw, [alone[n // 8 % len(alone)]], False)
+        elif n % 8 == 5:
+            t = faulty(draw, pairs[n // 8 % len(pairs)], n // 8 // len(pairs) % 2 == 0)
         else:
             t = any_sound(draw)
         yield t.case()

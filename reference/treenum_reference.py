@@ -122,7 +122,7 @@ class Counts:
         return math.prod(self.of_state(argument) for argument in row.arguments)
 
     def of_state(self, state):
-        """'A state counts the sum over the rows with it as target.'
+        """'A state counts the sum over the rows with it as target'
 
         'A state without rows counts 0, and so does a row that uses it.'
         """
@@ -160,7 +160,7 @@ def reached(table, tree):
     """The states that a tree reaches.
 
     'A tree reaches a state when its children reach the arguments of a row with its symbol, in order; the state
-    is that row's target.'
+    is that row's target'
     """
     symbol, children = tree
     return [row.target for row in table

@@ -10,7 +10,7 @@ use model::Refusal;
 ghost use mathlib.Core.Path.{_≡_};
 ghost use Rattle.cases.specs.Decimal.{grown};
 
-// The numbers of a line after the count of states: 24,000 row entries, 2,000 accepting entries, k and m.
+// The numbers of a line after the count of states: k, m and 26,000 entries.
 const ROOM: usize = 26002;
 
 // A number with one decimal digit more.

@@ -1,8 +1,8 @@
 -- Counting the states in turn. Assumes nothing.
-use Prim.Native.Nat.{ℕ, zero, suc, _+_, _*_, _-_, _<_, _≤_, min}
+use Prim.Native.Nat.{ℕ, _+_, _<_, _≤_, min}
 use mathlib.Core.Path.{_≡_, refl, sym, ap, _∙_}
 use mathlib.Core.Bool.{Bool, true, false}
-use mathlib.Core.List.{List, [], _∷_, map}
+use mathlib.Core.List.{List, map}
 use native.Mathlib.Omega.{arith}
 use lib.ListN.{length, getD, take, set, length-set}
 use lib.Seq.{getD-set-same, getD-set-other}
@@ -11,7 +11,7 @@ use borrow.Author.Tests.{lt-ltb, le-ltb, ltb-true, ltb-false}
 use borrow.Author.Count.{below-more}
 use Rattle.model.specs.declared.Kind.{Kind}
 use Rattle.model.specs.Answers.{kindNumber}
-use Rattle.model.specs.Table.{Row, Table, noRow, rowsOf, rowNumbered, howManyRows}
+use Rattle.model.specs.Table.{Row, noRow, rowsOf, rowNumbered, howManyRows}
 use Rattle.model.specs.Count.{sum, weight, stateCounts, count, longest}
 use Rattle.model.specs.Value.{earlierRows}
 use Rattle.model.specs.Check.{countLimit, stateGround}
@@ -21,10 +21,9 @@ use Rattle.model.proofs.Rows.{rowsOf-length, rowsOf-at}
 use Rattle.model.proofs.Checked.{state-good}
 use Rattle.model.proofs.Passing.{state-ground}
 use Rattle.counts.specs.declared.Counted.{Counted}
-use Rattle.counts.specs.declared.StateFault.{StateFault}
 use Rattle.counts.specs.declared.StateFault.the-variants.{At, Nothing}
 use Rattle.counts.specs.Chain.{target, InOrder}
-use Rattle.counts.specs.States.{ceiling, held, Within, Summed, rowTable, Known, CountedStates, Given, Countable, Ready}
+use Rattle.counts.specs.States.{ceiling, held, Summed, rowTable, Known, CountedStates, Given, Countable}
 
 -- the rows of the table are in order
 rows-ordered : (states : ℕ) (rows : List ℕ) → InOrder states rows (howManyRows rows) → Ordered (rowsOf rows)
@@ -54,7 +53,7 @@ known-begins states rows cs ls sums a b d = record {
 }
 
 module _ {states : ℕ} {rows offsets first after cs ls sums : List ℕ} {q : ℕ} (g : Given states rows offsets first after) (x : Known states rows q cs ls sums) (lt : q < states) where
-  small : (a : ℕ) → a < q → (held cs a ≤ 4294967295) × (held ls a ≤ 4096)
+  small : (a : ℕ) → a < q → (held cs a ≤ countLimit) × (held ls a ≤ 4096)
   small a l =
       let s = state-good countLimit (rowTable states rows) a (x .fine a l) in
       (rw (x .counts a l) (s .0), rw (x .longests a l) (s .1))
@@ -94,11 +93,11 @@ module _ {states : ℕ} {rows offsets first after cs ls sums : List ℕ} {q : �
         ∙ stateLongest-local (rowsOf rows) (rows-ordered states rows (g .ordered)) (held cs) (count (rowTable states rows)) (held ls) (longest (rowTable states rows)) q (x .counts) (x .longests)
         ∙ sym (longest-eqn (rowTable states rows) (rows-ordered states rows (g .ordered)) q lt)
 
-    pub count-fault : 4294967295 < s .count → stateGround countLimit (rowTable states rows) q ≡ 9
+    pub count-fault : countLimit < s .count → stateGround countLimit (rowTable states rows) q ≡ 9
     unfolding stateGround
     count-fault h = rw (lt-ltb countLimit (count (rowTable states rows) q) (omega (arith, state-count)))
 
-    pub length-fault : s .count ≤ 4294967295 → 4096 < s .longest → stateGround countLimit (rowTable states rows) q ≡ 10
+    pub length-fault : s .count ≤ countLimit → 4096 < s .longest → stateGround countLimit (rowTable states rows) q ≡ 10
     unfolding stateGround
     length-fault h m =
         rw (le-ltb countLimit (count (rowTable states rows) q) (omega (arith, state-count)), lt-ltb 4096 (longest (rowTable states rows) q) (omega (arith, state-longest)))
@@ -116,7 +115,7 @@ module _ {states : ℕ} {rows offsets first after cs ls sums : List ℕ} {q : �
             let b : k ≡ k′ = cc in
             rw (← a, ← b) (lt, x .fine, e)
 
-    module _ (low : s .count ≤ 4294967295) (short : s .longest ≤ 4096) where
+    module _ (low : s .count ≤ countLimit) (short : s .longest ≤ 4096) where
       exact : s .count ≡ count (rowTable states rows) q
       exact = omega (arith, state-count)
 

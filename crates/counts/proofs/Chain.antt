@@ -1,15 +1,14 @@
 -- Laws of the chains of rows by target. Assumes nothing.
-use Prim.Native.Nat.{ℕ, zero, suc, _+_, _*_, _-_, _<_, _≤_}
-use mathlib.Core.Path.{_≡_, refl, sym, ap, _∙_}
+use Prim.Native.Nat.{ℕ, zero, suc, _+_, _-_, _<_, _≤_}
+use mathlib.Core.Path.{_≡_, refl, sym, _∙_}
 use mathlib.Core.Bool.{Bool, true, false}
 use mathlib.Core.List.{List}
 use native.Mathlib.Omega.{arith}
-use native.Mathlib.Numerals.{add-one}
 use lib.ListN.{length, getD, set, length-set}
 use lib.Seq.{getD-set-same, getD-set-other}
 use lib.Dec.{eqb, ltb}
 use borrow.Author.Tests.{eqb-true, eqb-false, ltb-true, ltb-false}
-use Rattle.counts.specs.Chain.{target, leads, Link, Chained, Unchained}
+use Rattle.counts.specs.Chain.{target, leads, TargetLink, Chained, Unchained}
 
 -- a link that leads to a row is 1 more than its number
 pub leads-row : (p n : ℕ) → 0 < p → leads p n ≡ p - 1
@@ -33,7 +32,7 @@ unchained rows first after n u = record {
   afters = λ r ge lt. absurd (omega arith);
 }
   where
-    empty-link : (q : ℕ) → Link rows q n n 0
+    empty-link : (q : ℕ) → TargetLink rows q n n 0
     empty-link q = record {
       within = rw (leads-end n) (omega arith);
       from = rw (leads-end n) (omega arith);
@@ -45,7 +44,7 @@ unchained rows first after n u = record {
 -- one row more in front
 module _ {rows first after : List ℕ} {m n : ℕ} (x : Chained rows m n first after) (r t : ℕ) (next : m ≡ suc r) (below : r < n) (room : n ≤ 1024)
     (same : t ≡ target rows r) (state : t < 256) where
-  first-more : (q : ℕ) → q < 256 → (b : Bool) → eqb q t ≡ b → Link rows q r n (getD (set first t (r + 1)) q 0)
+  first-more : (q : ℕ) → q < 256 → (b : Bool) → eqb q t ≡ b → TargetLink rows q r n (getD (set first t (r + 1)) q 0)
   first-more q ql true e =
       let h : q ≡ t = eqb-true q t e in
       let here : t < length first = omega (arith, x .first-long) in
@@ -73,7 +72,7 @@ module _ {rows first after : List ℕ} {m n : ℕ} (x : Chained rows m n first a
           let h : k ≡ r = omega (arith, ltb-false r k z) in
           eqb-false q t e (sym (rw h at y) ∙ sym same)
 
-  after-more : (k : ℕ) → r ≤ k → k < n → (b : Bool) → ltb r k ≡ b → Link rows (target rows k) (suc k) n (getD (set after r (getD first t 0)) k 0)
+  after-more : (k : ℕ) → r ≤ k → k < n → (b : Bool) → ltb r k ≡ b → TargetLink rows (target rows k) (suc k) n (getD (set after r (getD first t 0)) k 0)
   after-more k ge lt true e =
       let gt = ltb-true r k e in
       let ne : k ≡ r → ⊥ = λ h. omega arith in

@@ -1,16 +1,18 @@
 -- Products and sums that are kept to a limit on the way. Assumes nothing.
-use Prim.Native.Nat.{ℕ, zero, suc, _+_, _*_, _-_, _<_, _≤_, min, max}
+use Prim.Native.Nat.{ℕ, zero, suc, _+_, _*_, _<_, _≤_, min}
 use mathlib.Core.Path.{_≡_, refl, sym, ap, _∙_}
 use mathlib.Core.Bool.{Bool, true, false}
-use mathlib.Core.List.{List, [], _∷_, _++_, map}
-use native.Mathlib.Nat.{mul-zero, mul-one, mul-assoc, one-mul, le-mul-of-pos-right, mul-le-mul, min-eq-left, min-eq-right, min-le-right, le-of-lt}
+use mathlib.Core.List.{List, [], _∷_, map}
+use native.Mathlib.Nat.{mul-zero, mul-one, mul-assoc, mul-suc, one-mul, le-mul-of-pos-right, mul-le-mul, min-eq-left, min-eq-right, le-of-lt}
 use native.Mathlib.Omega.{arith}
 use native.Mathlib.Numerals.{add-one}
-use lib.ListN.{length, getD, take, drop, drop-of-length-le}
+use lib.ListN.{length, getD, drop, drop-of-length-le}
 use lib.Seq.{drop-cons}
 use lib.Dec.{leb}
 use borrow.Author.Tests.{leb-true, leb-false}
 use Rattle.model.specs.Count.{sum, product}
+use Rattle.model.specs.Check.{countLimit}
+use Rattle.counts.specs.States.{ceiling, held, Within}
 
 -- a product kept to a limit may be kept to it on the way: 0 stays 0, and what is above stays above
 pub kept-times : (l p c : ℕ) → min (min p l * c) l ≡ min (p * c) l
@@ -54,23 +56,29 @@ module _ (f : ℕ → ℕ) (args : List ℕ) (i : ℕ) (lt : i < length args) wh
       → min (t′ + sum (map f (drop (i + 1) args))) l ≡ all
   kept-goes l t t′ x all ex et h = omega (arith, sum-next)
 
-  pub sum-goes : (n x all : ℕ) → x ≡ f (getD args i 0) → n + sum (map f (drop i args)) ≡ all → n + x + sum (map f (drop (i + 1) args)) ≡ all
-  sum-goes n x all ex h = omega (arith, sum-next)
-
 pub product-ends : (f : ℕ → ℕ) (args : List ℕ) (i l w all : ℕ) → length args ≤ i → w ≤ l → min (w * product (map f (drop i args))) l ≡ all → w ≡ all
 unfolding product
 product-ends f args i l w all ge le h = sym (min-eq-left le) ∙ ap (λ (v : ℕ). min v l) (sym (mul-one w)) ∙ rw (drop-of-length-le args {i = i} ge) at h
 
-pub sum-ends : (f : ℕ → ℕ) (args : List ℕ) (i n all : ℕ) → length args ≤ i → n + sum (map f (drop i args)) ≡ all → n ≡ all
-unfolding sum
-sum-ends f args i n all ge h = omega (arith, rw (drop-of-length-le args {i = i} ge) at h)
-
 pub kept-ends : (f : ℕ → ℕ) (args : List ℕ) (i l t all : ℕ) → length args ≤ i → t ≤ l → min (t + sum (map f (drop i args))) l ≡ all → t ≡ all
-kept-ends f args i l t all ge le h = omega (arith, sum-ends f args i 0 (sum (map f (drop i args))) ge (let z : 0 + sum (map f (drop i args)) ≡ sum (map f (drop i args)) = omega arith in z))
+unfolding sum
+kept-ends f args i l t all ge le h = omega (arith, rw (drop-of-length-le args {i = i} ge) at h)
+
+-- a sum of small numbers is small
+sum-small : (f : ℕ → ℕ) (b : ℕ) (xs : List ℕ) → ((k : ℕ) → k < length xs → f (getD xs k 0) ≤ b) → sum (map f xs) ≤ b * length xs
+unfolding sum
+sum-small f b [] h = omega arith
+sum-small f b (x ∷ xs) h =
+    let t : sum (map f xs) ≤ b * length xs = sum-small f b xs (λ k l. h (suc k) (omega arith)) in
+    let e : b * suc (length xs) ≡ b * length xs + b = mul-suc b (length xs) in
+    omega (arith, h 0 (omega arith))
+
+-- sixteen longest trees within their limit are together below the ceiling
+pub short-sum : (ls args : List ℕ) → length args ≤ 16 → Within 4096 ls args → min (sum (map (held ls) args)) ceiling ≡ sum (map (held ls) args)
+short-sum ls args few w = min-eq-left (omega (arith, sum-small (held ls) 4096 args (w .small)))
+
+pub within-more : (ls args : List ℕ) → Within 4096 ls args → Within countLimit ls args
+within-more ls args w = record { placed = w .placed; small = λ k l. omega (arith, w .small k l) }
 
 pub product-begins : (p l : ℕ) → min (1 * p) l ≡ min p l
 product-begins p l = rw (one-mul p)
-
-pub positive : (n : ℕ) → (n ≡ 0 → ⊥) → 0 < n
-positive zero h = absurd (h refl)
-positive (suc n) h = omega arith

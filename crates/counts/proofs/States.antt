@@ -1,23 +1,21 @@
 -- Counting one state along the chain of its rows. Assumes nothing.
-use Prim.Native.Nat.{ℕ, zero, suc, _+_, _*_, _-_, _<_, _≤_, min, max}
+use Prim.Native.Nat.{ℕ, zero, suc, _+_, _-_, _<_, _≤_, min, max}
 use mathlib.Core.Path.{_≡_, refl, sym, ap, _∙_}
-use mathlib.Core.Bool.{Bool, true, false, _&&_}
-use mathlib.Core.List.{List, [], _∷_, map}
-use native.Mathlib.Nat.{max-zero, max-comm, add-zero}
+use mathlib.Core.Bool.{Bool, true, false}
+use mathlib.Core.List.{List, map}
+use native.Mathlib.Nat.{max-zero, add-zero}
 use native.Mathlib.Omega.{arith}
-use native.Mathlib.Numerals.{add-one}
 use lib.ListN.{length, getD, take, set, length-set, length-map}
 use lib.Seq.{take-all, getD-set-same, getD-set-other}
 use lib.Dec.{eqb, ltb}
 use borrow.Author.Tests.{eq-eqb, ne-eqb, ltb-true, ltb-false, lt-ltb, le-ltb, eqb-true, eqb-false}
 use Rattle.model.specs.Choice.{if_then_else_}
 use Rattle.model.specs.Table.{Row, noRow, rowsOf, rowNumbered, howManyRows}
-use Rattle.model.specs.Count.{sum, product, largest, rowCounts, weight, rowLongest, stateCounts, stateLongest}
+use Rattle.model.specs.Count.{sum, product, largest, weight, rowLongest, stateCounts, stateLongest}
 use Rattle.model.specs.Value.{earlierRows}
 use Rattle.model.proofs.Counting.{getD-map, sum-take-suc, largest-take-suc}
 use Rattle.model.proofs.Rows.{rowsOf-length, rowsOf-at}
-use Rattle.counts.specs.declared.Counted.{Counted}
-use Rattle.counts.specs.Chain.{target, leads, Link, Chained}
+use Rattle.counts.specs.Chain.{target, leads, TargetLink}
 use Rattle.counts.specs.States.{ceiling, held, longer, Summed}
 use Rattle.counts.proofs.Chain.{leads-row, leads-end}
 
@@ -33,9 +31,9 @@ skip F op more none xs i (suc j) le z = go (ltb j i) refl (skip F op more none x
         let ge : i ≤ j = ltb-false j i e in
         more xs j ∙ ap (λ (v : ℕ). op (F (take j xs)) v) (z j ge (omega arith)) ∙ none (F (take j xs)) ∙ ih ge (λ k a b. z k a (omega arith))
 
-positive : (p c : ℕ) → 0 < c → ltb 0 (min p c) ≡ ltb 0 p
-positive zero c h = le-ltb 0 (min 0 c) (omega arith) ∙ sym (le-ltb 0 0 (omega arith))
-positive (suc p) c h = lt-ltb 0 (min (suc p) c) (omega arith) ∙ sym (lt-ltb 0 (suc p) (omega arith))
+kept-positive : (p c : ℕ) → 0 < c → ltb 0 (min p c) ≡ ltb 0 p
+kept-positive zero c h = le-ltb 0 (min 0 c) (omega arith) ∙ sym (le-ltb 0 0 (omega arith))
+kept-positive (suc p) c h = lt-ltb 0 (min (suc p) c) (omega arith) ∙ sym (lt-ltb 0 (suc p) (omega arith))
 
 module _ (rows cs ls : List ℕ) (q : ℕ) where
   abbrev weights : List ℕ
@@ -98,13 +96,13 @@ module _ (rows cs ls : List ℕ) (q : ℕ) where
     pub own : (k : ℕ) → k < leads p (howManyRows rows) → target rows k ≡ q → getD sums k 0 ≡ min (earlierRows (rowsOf rows) (held cs) q k) ceiling
     pub others : (k : ℕ) → (target rows k ≡ q → ⊥) → getD sums k 0 ≡ getD sums₀ k 0
 
-  inside-of : (m p : ℕ) → Link rows q m (howManyRows rows) p → 0 < p → p - 1 < howManyRows rows
+  inside-of : (m p : ℕ) → TargetLink rows q m (howManyRows rows) p → 0 < p → p - 1 < howManyRows rows
   inside-of m p l h = rw (leads-row p (howManyRows rows) h) at (l .inside h)
 
-  mine-of : (m p : ℕ) → Link rows q m (howManyRows rows) p → 0 < p → target rows (p - 1) ≡ q
+  mine-of : (m p : ℕ) → TargetLink rows q m (howManyRows rows) p → 0 < p → target rows (p - 1) ≡ q
   mine-of m p l h = rw (leads-row p (howManyRows rows) h) at (l .mine h)
 
-  pub sum-begins : (sums : List ℕ) (p : ℕ) → length sums ≡ 1024 → Link rows q 0 (howManyRows rows) p → Summing sums sums 0 0 p
+  pub sum-begins : (sums : List ℕ) (p : ℕ) → length sums ≡ 1024 → TargetLink rows q 0 (howManyRows rows) p → Summing sums sums 0 0 p
   unfolding earlierRows sum largest
   sum-begins sums p e l = record {
     inside = inside-of 0 p l;
@@ -118,7 +116,7 @@ module _ (rows cs ls : List ℕ) (q : ℕ) where
 
   module _ {sums₀ sums : List ℕ} {count long p : ℕ} (s : Summing sums₀ sums count long p) (pos : 0 < p) (w count′ long′ p′ : ℕ)
       (row : w ≡ min (product (map (held cs) (rowNumbered rows (p - 1) .args))) ceiling) (more : count′ ≡ min (count + w) ceiling)
-      (longest : long′ ≡ longer long w ls (rowNumbered rows (p - 1) .args)) (l : Link rows q (suc (p - 1)) (howManyRows rows) p′) (many : howManyRows rows ≤ 1024) where
+      (longest : long′ ≡ longer long w ls (rowNumbered rows (p - 1) .args)) (l : TargetLink rows q (suc (p - 1)) (howManyRows rows) p′) (many : howManyRows rows ≤ 1024) where
     here : leads p (howManyRows rows) ≡ p - 1
     here = leads-row p (howManyRows rows) pos
 
@@ -134,7 +132,7 @@ module _ (rows cs ls : List ℕ) (q : ℕ) where
         let a = largest-skip (suc (p - 1)) (leads p′ (howManyRows rows)) (l .from) (l .within) (l .gap) in
         let b = length-mine (p - 1) (s .inside pos) (s .mine pos) in
         let d : long ≡ largest (take (p - 1) lengths) = rw here at (s .measured) in
-        let z : ltb 0 w ≡ ltb 0 (product (map (held cs) (rowNumbered rows (p - 1) .args))) = ap (λ (v : ℕ). ltb 0 v) row ∙ positive (product (map (held cs) (rowNumbered rows (p - 1) .args))) ceiling (omega arith) in
+        let z : ltb 0 w ≡ ltb 0 (product (map (held cs) (rowNumbered rows (p - 1) .args))) = ap (λ (v : ℕ). ltb 0 v) row ∙ kept-positive (product (map (held cs) (rowNumbered rows (p - 1) .args))) ceiling (omega arith) in
         longest
         ∙ ap (λ (t : Bool). max long (if t then 2 + sum (map (held ls) (rowNumbered rows (p - 1) .args)) else 0)) z
         ∙ ap (λ (v : ℕ). max long v) (sym b)

@@ -1,5 +1,5 @@
 -- The rows of one target, chained in their order. Assumes nothing: these are definitions.
-use Prim.Native.Nat.{ℕ, zero, suc, _+_, _<_, _≤_}
+use Prim.Native.Nat.{ℕ, zero, suc, _<_, _≤_}
 use mathlib.Core.Path.{_≡_}
 use mathlib.Core.List.{List}
 use lib.ListN.{length, getD}
@@ -21,7 +21,7 @@ leads zero n = n
 leads (suc r) n = r
 
 -- the link leads to the first row from m on whose target is q
-pub record Link (rows : List ℕ) (q m n link : ℕ) : Type 0 where
+pub record TargetLink (rows : List ℕ) (q m n link : ℕ) : Type 0 where
   pub within : leads link n ≤ n
   pub from : m ≤ leads link n
   pub inside : 0 < link → leads link n < n
@@ -32,8 +32,8 @@ pub record Link (rows : List ℕ) (q m n link : ℕ) : Type 0 where
 pub record Chained (rows : List ℕ) (m n : ℕ) (first after : List ℕ) : Type 0 where
   pub first-long : length first ≡ 256
   pub after-long : length after ≡ 1024
-  pub firsts : (q : ℕ) → q < 256 → Link rows q m n (getD first q 0)
-  pub afters : (r : ℕ) → m ≤ r → r < n → Link rows (target rows r) (suc r) n (getD after r 0)
+  pub firsts : (q : ℕ) → q < 256 → TargetLink rows q m n (getD first q 0)
+  pub afters : (r : ℕ) → m ≤ r → r < n → TargetLink rows (target rows r) (suc r) n (getD after r 0)
 
 -- no link yet
 pub record Unchained (first after : List ℕ) : Type 0 where

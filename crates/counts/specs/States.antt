@@ -1,14 +1,14 @@
 -- Counts and longest trees, state by state, kept to a limit. Assumes nothing: these are definitions.
-use Prim.Native.Nat.{ℕ, zero, suc, _+_, _*_, _<_, _≤_, min, max}
+use Prim.Native.Nat.{ℕ, _+_, _<_, _≤_, min, max}
 use mathlib.Core.Path.{_≡_}
-use mathlib.Core.List.{List, [], _∷_, map}
-use lib.ListN.{length, getD, take}
+use mathlib.Core.List.{List, [], map}
+use lib.ListN.{length, getD}
 use lib.Dec.{ltb}
 use Rattle.model.specs.declared.Kind.{Kind}
 use Rattle.model.specs.Answers.{kindNumber}
 use Rattle.model.specs.Choice.{if_then_else_}
-use Rattle.model.specs.Table.{Row, Table, rowsOf, tableOf, howManyRows, rowNumbered}
-use Rattle.model.specs.Count.{sum, product, weight, stateCounts, stateLongest, count, longest}
+use Rattle.model.specs.Table.{Table, rowsOf, tableOf, howManyRows, rowNumbered}
+use Rattle.model.specs.Count.{sum, stateCounts, stateLongest, count, longest}
 use Rattle.model.specs.Value.{earlierRows}
 use Rattle.model.specs.Check.{countLimit, stateGround}
 use Rattle.counts.specs.declared.Counted.{Counted}
@@ -19,7 +19,7 @@ use Rattle.counts.specs.Chain.{target, InOrder, Chained}
 
 -- the first number above the limit: what is kept to it is right below it, and above the limit where it should be
 abbrev pub ceiling : ℕ
-ceiling = 4294967296
+ceiling = countLimit + 1
 
 -- what a list holds for each state
 abbrev pub held : List ℕ → ℕ → ℕ
@@ -75,7 +75,7 @@ pub record Countable (rows offsets first after cs ls sums : List ℕ) (q : ℕ) 
   pub state : q < 256
   pub sums-long : length sums ≡ 1024
   pub short : (r : ℕ) → r < howManyRows rows → target rows r ≡ q → length (rowNumbered rows r .args) ≤ 16
-  pub counted : (r : ℕ) → r < howManyRows rows → target rows r ≡ q → Within 4294967295 cs (rowNumbered rows r .args)
+  pub counted : (r : ℕ) → r < howManyRows rows → target rows r ≡ q → Within countLimit cs (rowNumbered rows r .args)
   pub measured : (r : ℕ) → r < howManyRows rows → target rows r ≡ q → Within 4096 ls (rowNumbered rows r .args)
 
 pub record Ready (states : ℕ) (rows offsets first after cs ls sums : List ℕ) : Type 0 where

@@ -1,14 +1,20 @@
 // Counts of states and their longest trees, state by state.
 use model::Kind;
 ghost use mathlib.Core.Path.{_≡_};
-ghost use Prim.Native.Nat.{ℕ, _+_, _*_, _<_, _≤_, min, max};
+ghost use Prim.Native.Nat.{ℕ, _+_, _*_, _<_, _≤_, min};
 ghost use mathlib.Core.List.{map};
 ghost use lib.ListN.{length};
-ghost use Rattle.model.specs.Table.{howManyRows};
 ghost use Rattle.model.specs.Count.{sum, product};
+ghost use Rattle.model.specs.Check.{countLimit};
 ghost use Rattle.rows.specs.Laid.{Laid};
 ghost use Rattle.counts.specs.Chain.{target, Chained, Unchained};
 ghost use Rattle.counts.specs.States.{ceiling, held, Within, longer, Summed, Countable, Ready, CountedStates};
+
+// The largest count and the largest total that pass.
+pub const LIMIT: u64 = 4294967295;
+
+// What is kept to this is right up to the limit, and above it where it should be.
+const CEILING: u64 = LIMIT + 1;
 
 // What a state counts, kept to one above the limit, and how many entries its longest tree has.
 pub struct Counted {
@@ -28,21 +34,21 @@ fn times(w: u64, c: u64) -> u64
     ensures { λ r. ⌜ r ≡ min (w * c) ceiling ⌝ }
 {
     let p = w * c;
-    if 4294967296 < p { 4294967296 } else { p }
+    if CEILING < p { CEILING } else { p }
 }
 
 // A sum kept to one above the limit.
-pub fn plus(a: u64, b: u64) -> u64
+fn plus(a: u64, b: u64) -> u64
     requires { ⌜ (a ≤ ceiling) × (b ≤ ceiling) ⌝ }
     ensures { λ r. ⌜ r ≡ min (a + b) ceiling ⌝ }
 {
     let s = a + b;
-    if 4294967296 < s { 4294967296 } else { s }
+    if CEILING < s { CEILING } else { s }
 }
 
 // What a row with these arguments counts, kept to one above the limit.
 fn row_count(args: &[u16], counts: &[u64; 256]) -> u64
-    requires { ⌜ Within 4294967295 (now counts) (now args) ⌝ }
+    requires { ⌜ Within countLimit (now counts) (now args) ⌝ }
     ensures { λ r. ⌜ r ≡ min (product (map (held (now (counts .entry))) (now (args .entry)))) ceiling ⌝ }
 {
     let mut w: u64 = 1;
@@ -54,18 +60,18 @@ fn row_count(args: &[u16], counts: &[u64; 256]) -> u64
     w
 }
 
-// How many entries the longest tree of a row with these arguments has.
-fn row_length(args: &[u16], longest: &[u64; 256]) -> u64
-    requires { ⌜ (length (now args) ≤ 16) × Within 4096 (now longest) (now args) ⌝ }
-    ensures { λ r. ⌜ r ≡ 2 + sum (map (held (now (longest .entry))) (now (args .entry))) ⌝ }
+// The sum of what is held for each entry of a list, kept to one above the limit.
+pub fn sum_of(list: &[u16], values: &[u64; 256]) -> u64
+    requires { ⌜ Within countLimit (now values) (now list) ⌝ }
+    ensures { λ r. ⌜ r ≡ min (sum (map (held (now (values .entry))) (now (list .entry)))) ceiling ⌝ }
 {
-    let mut n: u64 = 2;
+    let mut total: u64 = 0;
     let mut i: usize = 0;
-    while i < args.len() {
-        n += longest[rows::wide(args[i])];
+    while i < list.len() {
+        total = plus(total, values[rows::wide(list[i])]);
         i += 1;
     }
-    n
+    total
 }
 
 // The longer of what was found and the longest tree of a row that counts w.
@@ -76,7 +82,7 @@ fn longer_of(long: u64, w: u64, args: &[u16], longest: &[u64; 256]) -> u64
     if w == 0 {
         return long;
     }
-    let n = row_length(args, longest);
+    let n = 2 + sum_of(args, longest);
     if long < n {
         return n;
     }
@@ -159,7 +165,7 @@ pub fn count_states(
         let s = count_state(rows, offsets, first, after, &*counts, &*longest, sums, q);
         let count = s.count;
         let long = s.longest;
-        if 4294967295 < count {
+        if LIMIT < count {
             return StateFault::At(q, Kind::CountAboveLimit);
         }
         if 4096 < long {

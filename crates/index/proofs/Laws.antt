@@ -9,7 +9,7 @@ use lib.ListN.{length, getD, set, take, drop, drop-of-length-le, length-set}
 use lib.Seq.{drop-cons, getD-set-same, getD-set-other}
 use lib.Dec.{ltb, eqb}
 use borrow.Author.Tests.{ltb-true, ltb-false, eqb-true, eqb-false}
-use Rattle.model.specs.Table.{sameList, rowIs, rowAt, argsAt, rowStart, rowNumbered}
+use Rattle.model.specs.Table.{sameList, rowIs, rowAt, rowStart, rowNumbered}
 use Rattle.model.specs.Check.{repeated}
 use Rattle.rows.specs.declared.Found.{Found}
 use Rattle.rows.specs.declared.Found.the-variants.{At, Nothing}
@@ -18,7 +18,7 @@ use Rattle.model.proofs.Choice.{any-true}
 use Rattle.model.proofs.Rows.{rowIs-true}
 use Rattle.rows.proofs.First.{isAt, none-first, first-at, first-none, first-more, any-first}
 use Rattle.rows.proofs.Laws.{part-is}
-use Rattle.index.specs.Index.{rowFound, mix, mixAll, bucket, hashOf, bucketOf, Link, Index, Clear}
+use Rattle.index.specs.Index.{rowFound, mix, mixAll, hashOf, bucketOf, Link, Index, Clear}
 
 drop-next : (l : List ℕ) (i : ℕ) → i < length l → drop i l ≡ getD l i 0 ∷ drop (i + 1) l
 drop-next l i lt = rw (add-one, drop-cons l i 0)

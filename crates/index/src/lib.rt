@@ -9,7 +9,7 @@ ghost use Rattle.rows.specs.Laid.{Whole, Laid};
 ghost use Rattle.index.specs.Index.{rowFound, hashOf, Index, Clear, Answered};
 
 // Whether two argument lists are equal.
-pub fn same(a: &[u16], b: &[u16]) -> bool
+fn same(a: &[u16], b: &[u16]) -> bool
     ensures { λ r. ⌜ r ≡ sameList (now (a .entry)) (now (b .entry)) ⌝ }
 {
     if a.len() != b.len() {
@@ -26,7 +26,7 @@ pub fn same(a: &[u16], b: &[u16]) -> bool
 }
 
 // Whether the row at `at` has this symbol and these arguments.
-pub fn row_is(rows: &[u16], at: usize, symbol: u16, args: &[u16]) -> bool
+fn row_is(rows: &[u16], at: usize, symbol: u16, args: &[u16]) -> bool
     requires { ⌜ Whole (now rows) at ⌝ }
     ensures { λ r. ⌜ r ≡ rowIs (rowAt (now (rows .entry)) at) symbol (now (args .entry)) ⌝ }
 {
@@ -39,7 +39,7 @@ pub fn row_is(rows: &[u16], at: usize, symbol: u16, args: &[u16]) -> bool
 }
 
 // The bucket of a symbol and arguments.
-pub fn hash(symbol: u16, args: &[u16]) -> usize
+fn hash(symbol: u16, args: &[u16]) -> usize
     ensures { λ r. ⌜ (r ≡ hashOf symbol (now (args .entry))) × (r < 2048) ⌝ }
 {
     let mut h: u64 = wider(symbol);

@@ -8,10 +8,6 @@ use native.Mathlib.Nat.{not-suc-le-zero, le-of-suc-le-suc, eq-or-lt-of-le, eq-ze
 use Rattle.model.specs.Answers.{Outcome, result, refused}
 use Rattle.model.specs.Choice.{if_then_else_, refuseOn, firstFaulty, anyBelow}
 
--- a test that holds, a test that does not
-pub if-yes : {A : Type 0} (b : Bool) (x y : A) → b ≡ true → (if b then x else y) ≡ x
-if-yes b x y e = rw e
-
 pub if-no : {A : Type 0} (b : Bool) (x y : A) → b ≡ false → (if b then x else y) ≡ y
 if-no b x y e = rw e
 
@@ -50,10 +46,6 @@ and-true false b e = let z : _≡_ {A = ℕ} 0 1 = cc in absurd (omega arith)
 
 pub and-both : (a b : Bool) → a ≡ true → b ≡ true → (a && b) ≡ true
 and-both a b e f = rw (e, f)
-
-pub true-or-false : (b : Bool) → (b ≡ true) ⊎ (b ≡ false)
-true-or-false true = inl refl
-true-or-false false = inr refl
 
 pub not-both : (b : Bool) → b ≡ true → b ≡ false → ⊥
 not-both b e f = let z : _≡_ {A = ℕ} 0 1 = cc in absurd (omega arith)
@@ -143,12 +135,3 @@ pub any-none : (n : ℕ) (p : ℕ → Bool) → ((i : ℕ) → i < n → p i ≡
 unfolding anyBelow
 any-none zero p h = refl
 any-none (suc n) p h = or-none (anyBelow n p) (p n) (any-none n p (λ i l. h i (omega arith))) (h n (omega arith))
-
-pub any-some : (n : ℕ) (p : ℕ → Bool) → anyBelow n p ≡ true → (i : ℕ) × (i < n) × (p i ≡ true)
-unfolding anyBelow
-any-some zero p e = let z : _≡_ {A = ℕ} 0 1 = cc in absurd (omega arith)
-any-some (suc n) p e = go (or-true (anyBelow n p) (p n) e) (any-some n p)
-  where
-    go : (anyBelow n p ≡ true) ⊎ (p n ≡ true) → (anyBelow n p ≡ true → (i : ℕ) × (i < n) × (p i ≡ true)) → (i : ℕ) × (i < suc n) × (p i ≡ true)
-    go (inl y) ih = let w = ih y in (w .0, omega arith, w .2)
-    go (inr y) ih = (n, omega arith, y)

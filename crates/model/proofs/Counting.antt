@@ -2,15 +2,15 @@
 use Prim.Native.Nat.{ℕ, zero, suc, _+_, _*_, _≤_, _<_, max}
 use mathlib.Core.Path.{_≡_, refl, ap, sym, _∙_}
 use mathlib.Core.Bool.{Bool, true, false, _&&_}
-use mathlib.Core.List.{List, [], _∷_, _++_, map}
+use mathlib.Core.List.{List, [], _∷_, map}
 use mathlib.Core.Logic.{_⊎_, inl, inr}
 use native.Mathlib.Omega.{arith}
 use native.Mathlib.Decide.{decLe}
-use native.Mathlib.Nat.{not-suc-le-zero, le-of-suc-le-suc, eq-or-lt-of-le, lt-of-not-le, mul-pos, mul-assoc, one-mul, mul-one}
+use native.Mathlib.Nat.{not-suc-le-zero, le-of-suc-le-suc, eq-or-lt-of-le, lt-of-not-le, zero-add}
 use lib.ListN.{length, getD, take, length-append, List·getD-append, List·getD-eq-default}
 use lib.Seq.{getD-at}
 use lib.Dec.{eqb, ltb}
-use borrow.Author.Tests.{eqb-true, eq-eqb, ltb-true, lt-ltb}
+use borrow.Author.Tests.{eqb-true, eq-eqb, ne-eqb, ltb-true, lt-ltb}
 use Rattle.model.specs.Choice.{if_then_else_}
 use Rattle.model.specs.Table.{Row, Table, noRow, IsRow}
 use Rattle.model.specs.Count.{sum, product, rowCounts, weight, stateCounts, Counts, grow, count, total, largest, rowLongest, stateLongest, longest}
@@ -38,17 +38,7 @@ map-agree f g d (x ∷ xs) h =
     let t : map f xs ≡ map g xs = map-agree f g d xs (λ i l. h (suc i) (omega arith)) in
     cc
 
-pub take-map : {A B : Type 0} (f : A → B) (i : ℕ) (xs : List A) → take i (map f xs) ≡ map f (take i xs)
-take-map f zero xs = refl
-take-map f (suc i) [] = refl
-take-map {B = B} f (suc i) (x ∷ xs) = ap (λ (ys : List B). f x ∷ ys) (take-map f i xs)
-
 -- ---- sums
-
-pub sum-append : (xs ys : List ℕ) → sum (xs ++ ys) ≡ sum xs + sum ys
-unfolding sum
-sum-append [] ys = omega arith
-sum-append (x ∷ xs) ys = omega (arith, sum-append xs ys)
 
 -- one entry more
 pub sum-take-suc : (xs : List ℕ) (i : ℕ) → sum (take (suc i) xs) ≡ sum (take i xs) + getD xs i 0
@@ -57,15 +47,6 @@ sum-take-suc [] zero = omega arith
 sum-take-suc [] (suc i) = omega arith
 sum-take-suc (x ∷ xs) zero = omega arith
 sum-take-suc (x ∷ xs) (suc i) = omega (arith, sum-take-suc xs i)
-
--- the entries before a place, with the one there, are among those before a later place
-pub sum-take-step : (xs : List ℕ) (i j : ℕ) → i < j → sum (take i xs) + getD xs i 0 ≤ sum (take j xs)
-unfolding sum
-sum-take-step xs i zero h = absurd (not-suc-le-zero h)
-sum-take-step [] zero (suc j) h = omega arith
-sum-take-step [] (suc i) (suc j) h = omega arith
-sum-take-step (x ∷ xs) zero (suc j) h = omega arith
-sum-take-step (x ∷ xs) (suc i) (suc j) h = omega (arith, sum-take-step xs i j (le-of-suc-le-suc h))
 
 pub sum-place : (xs : List ℕ) (i : ℕ) → sum (take i xs) + getD xs i 0 ≤ sum xs
 unfolding sum
@@ -89,42 +70,13 @@ sum-pos (suc x ∷ xs) l = (0, omega arith, omega arith)
 
 -- ---- products
 
-pub product-append : (xs ys : List ℕ) → product (xs ++ ys) ≡ product xs * product ys
-unfolding product
-product-append [] ys = sym (one-mul (product ys))
-product-append (x ∷ xs) ys = ap (λ (p : ℕ). x * p) (product-append xs ys) ∙ sym (mul-assoc x (product xs) (product ys))
-
-pub product-take-suc : (xs : List ℕ) (i : ℕ) → i < length xs → product (take (suc i) xs) ≡ product (take i xs) * getD xs i 0
-unfolding product
-product-take-suc [] i h = absurd (not-suc-le-zero h)
-product-take-suc (x ∷ xs) zero h = mul-one x ∙ sym (one-mul x)
-product-take-suc (x ∷ xs) (suc i) h =
-    ap (λ (p : ℕ). x * p) (product-take-suc xs i (le-of-suc-le-suc h)) ∙ sym (mul-assoc x (product (take i xs)) (getD xs i 0))
-
 -- two factors of a product that is above a number are above 0
 pub factors-pos : (a b h : ℕ) → h < a * b → (0 < a) × (0 < b)
 factors-pos zero b h l = (omega arith, omega arith)
 factors-pos (suc a) zero h l = (omega arith, omega arith)
 factors-pos (suc a) (suc b) h l = (omega arith, omega arith)
 
--- a product is above 0 just where each entry is
-pub product-pos : (xs : List ℕ) → ((i : ℕ) → i < length xs → 0 < getD xs i 0) → 0 < product xs
-unfolding product
-product-pos [] h = omega arith
-product-pos (x ∷ xs) h = mul-pos (h 0 (omega arith)) (product-pos xs (λ i l. h (suc i) (omega arith)))
-
-pub product-pos-entry : (xs : List ℕ) → 0 < product xs → (i : ℕ) → i < length xs → 0 < getD xs i 0
-unfolding product
-product-pos-entry [] p i l = absurd (not-suc-le-zero l)
-product-pos-entry (x ∷ xs) p zero l = factors-pos x (product xs) 0 p .0
-product-pos-entry (x ∷ xs) p (suc i) l = product-pos-entry xs (factors-pos x (product xs) 0 p .1) i (le-of-suc-le-suc l)
-
 -- ---- the largest
-
-pub largest-append : (xs ys : List ℕ) → largest (xs ++ ys) ≡ max (largest xs) (largest ys)
-unfolding largest
-largest-append [] ys = omega arith
-largest-append (x ∷ xs) ys = omega (arith, largest-append xs ys)
 
 pub largest-take-suc : (xs : List ℕ) (i : ℕ) → largest (take (suc i) xs) ≡ max (largest (take i xs)) (getD xs i 0)
 unfolding largest
@@ -132,13 +84,6 @@ largest-take-suc [] zero = omega arith
 largest-take-suc [] (suc i) = omega arith
 largest-take-suc (x ∷ xs) zero = omega arith
 largest-take-suc (x ∷ xs) (suc i) = omega (arith, largest-take-suc xs i)
-
-pub largest-take-le : (xs : List ℕ) (i : ℕ) → largest (take i xs) ≤ largest xs
-unfolding largest
-largest-take-le [] zero = omega arith
-largest-take-le [] (suc i) = omega arith
-largest-take-le (x ∷ xs) zero = omega arith
-largest-take-le (x ∷ xs) (suc i) = omega (arith, largest-take-le xs i)
 
 pub largest-entry : (xs : List ℕ) (i : ℕ) → getD xs i 0 ≤ largest xs
 unfolding largest
@@ -279,11 +224,6 @@ count-eqn T o q l = grow-eqn (stateCounts (T .rows)) (stateCounts-local (T .rows
 pub count-counts : (T : Table) → Ordered (T .rows) → Counts T (count T)
 count-counts T o = record { state = count-eqn T o }
 
--- no state, no trees
-pub count-beyond : (T : Table) (q : ℕ) → T .states ≤ q → count T q ≡ 0
-unfolding count
-count-beyond T q l = List·getD-eq-default (grow (stateCounts (T .rows)) (T .states)) 0 (omega (arith, grow-length (stateCounts (T .rows)) (T .states)))
-
 pub longest-eqn : (T : Table) → Ordered (T .rows) → (q : ℕ) → q < T .states → longest T q ≡ stateLongest (T .rows) (count T) (longest T) q
 unfolding longest
 longest-eqn T o q l =
@@ -301,6 +241,12 @@ counts-unique T o c d e f q l = go (suc q) q (omega arith) l
     go : (n q : ℕ) → q < n → q < T .states → c q ≡ d q
     go zero q h l = absurd (not-suc-le-zero h)
     go (suc n) q h l = e .state q l ∙ stateCounts-local (T .rows) o c d q (λ a la. go n a (omega arith) (omega arith)) ∙ sym (f .state q l)
+
+-- "A state without rows counts 0"
+pub rowless-counts : (rows : List Row) (c : ℕ → ℕ) (q : ℕ) → ((i : ℕ) → i < length rows → getD rows i noRow .target ≡ q → ⊥) → stateCounts rows c q ≡ 0
+unfolding stateCounts sum weight
+rowless-counts [] c q h = refl
+rowless-counts (r ∷ rows) c q h = rw (ne-eqb (r .target) q (h 0 (omega arith)), zero-add) (rowless-counts rows c q (λ i l. h (suc i) (omega arith)))
 
 pub total-is : (T : Table) → total T ≡ sum (map (count T) (T .accepting))
 unfolding total

@@ -2,7 +2,6 @@
 use Prim.Native.Nat.{ℕ}
 use Rattle.model.specs.declared.Kind.{Kind}
 use Rattle.model.specs.declared.Kind.the-variants.{TooManyStates, CutRow, TooManyRowsOrArguments, NotInRange, ArgumentNotBelowTarget, RepeatedRow, AcceptingEntry, AcceptingTooLong, CountAboveLimit, LongestTreeAboveLimit, TotalAboveLimit, TreeTooLong, NotATree, NotAccepted, NumberNotBelowTotal, ShortTreeList, FaultyNames, TextTooLong, NotATerm, UnlistedName, TermTreeTooLong, ShortTermTree, UnnamedSymbol, ShortTextList}
-use Rattle.model.specs.declared.Refusal.{Refusal}
 use Rattle.model.specs.declared.Answer.{Answer}
 use Rattle.model.specs.declared.Answer.the-variants.{Result, Refused}
 
@@ -62,7 +61,7 @@ kindNumber UnnamedSymbol = 23
 -- "A short lent list is 24, with the bytes needed."
 kindNumber ShortTextList = 24
 
--- what an answer of the code says, in document 01's numbers: every promise is stated through it
+-- what an answer of the code says, in document 01's numbers: promises are stated by outcomes
 abbrev pub outcome : Answer → Outcome
 outcome (Result n) = result n
 outcome (Refused r) = refused (kindNumber (r .kind)) (r .place)

@@ -1,7 +1,7 @@
 -- Choosing by tests, and by the first of several things that is faulty. Assumes nothing: these are definitions.
 use Prim.Native.Nat.{ℕ, zero, suc}
 use mathlib.Core.Bool.{Bool, true, false, _||_}
-use Rattle.model.specs.Answers.{Outcome, result, refused}
+use Rattle.model.specs.Answers.{Outcome, refused}
 
 infixr 5 if_then_else_
 abbrev pub if_then_else_ : {A : Type 0} → Bool → A → A → A

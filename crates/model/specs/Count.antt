@@ -1,7 +1,7 @@
 -- "Counting and order": counts of rows and states, the total, and the longest tree. Assumes nothing: these are definitions.
 use Prim.Native.Nat.{ℕ, zero, suc, _+_, _*_, _≤_, _<_, max}
 use mathlib.Core.Path.{_≡_}
-use mathlib.Core.Bool.{Bool, _&&_}
+use mathlib.Core.Bool.{_&&_}
 use mathlib.Core.List.{List, [], _∷_, _++_, map}
 use lib.ListN.{length, getD}
 use lib.Dec.{eqb, ltb}
@@ -61,7 +61,7 @@ rowLongest c l q r = if eqb (r .target) q && ltb 0 (rowCounts c r) then 2 + sum 
 unfoldable pub stateLongest : List Row → (c l : ℕ → ℕ) → ℕ → ℕ
 stateLongest rows c l q = largest (map (rowLongest c l q) rows)
 
--- how many entries a state's longest tree has, where every argument is below its target (the law `longest-tree`).
+-- how many entries a state's longest tree has, in a table that passes (the law `longest-tree`).
 -- "A state that counts 0 has none.": then this is 0, which no tree has (the laws `longest-none` and `none-reaches`)
 unfoldable pub longest : Table → ℕ → ℕ
 longest T q = getD (grow (stateLongest (T .rows) (count T)) (T .states)) q 0

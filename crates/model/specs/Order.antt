@@ -7,7 +7,7 @@ use Rattle.model.specs.Table.{Table}
 use Rattle.model.specs.Tree.{Forest, Tree, node, only}
 use Rattle.model.specs.Reach.{Accepted, rowOf, stateOf, entryOf}
 
--- for accepted trees. Trees side by side: "if its row stands earlier; with the same row, by the first child in which they differ, compared by row and child again"
+-- Accepted trees side by side, in one state: "if its row stands earlier; with the same row, by the first child in which they differ, compared by row and child again"
 pub data Earlier (T : Table) : Forest → Forest → Type 0 where
   row : {s s′ : ℕ} {k k′ r r′ : Forest} → rowOf T s k < rowOf T s′ k′ → Earlier T (node s k r) (node s′ k′ r′)
   child : {s s′ : ℕ} {k k′ r r′ : Forest} → rowOf T s k ≡ rowOf T s′ k′ → Earlier T k k′ → Earlier T (node s k r) (node s′ k′ r′)
@@ -22,6 +22,7 @@ pub data ComesFirst (T : Table) (t u : Tree) : Type 0 where
   state : listedAt T t < listedAt T u → ComesFirst T t u
   within : stateOf T t ≡ stateOf T u → Earlier T (only t) (only u) → ComesFirst T t u
 
+-- the one accepted tree comes before the other
 pub record Before (T : Table) (t u : Tree) : Type 0 where
   pub first : Accepted T t
   pub second : Accepted T u

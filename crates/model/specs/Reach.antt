@@ -1,6 +1,5 @@
 -- "Counting and order": reaching and accepting, for trees of any length. Assumes nothing: these are definitions.
-use Prim.Native.Nat.{ℕ, zero, suc, _<_}
-use mathlib.Core.Path.{_≡_}
+use Prim.Native.Nat.{ℕ, suc, _<_}
 use mathlib.Core.List.{List, [], _∷_}
 use lib.ListN.{length, getD}
 use lib.Dec.{eqb}
@@ -24,7 +23,8 @@ pub record Accepted (T : Table) (t : Tree) : Type 0 where
   pub listed : entry < length (T .accepting)
   pub reaches : Reaches (T .rows) t (getD (T .accepting) entry 0)
 
--- The same by functions, for a table whose arguments are states and in which no row is repeated; elsewhere `Reach` decides.
+-- The same by functions, for a table whose targets and arguments are states and in which no row is repeated (the laws `states-reach` and
+-- `reach-states`); elsewhere `Reach` decides.
 -- The number of the first row with symbol s and arguments xs; where there is none, the count of rows
 unfoldable pub rowWith : List Row → ℕ → List ℕ → ℕ
 rowWith [] s xs = 0

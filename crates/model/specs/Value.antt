@@ -1,7 +1,7 @@
 -- "Counting and order": the value and the number of a tree (001, Figure 1), and back again (001, Figure 2). Assumes nothing: these are definitions.
 use Prim.Native.Nat.{ℕ, zero, suc, _+_, _*_, _-_, _/_, _%_}
 use mathlib.Core.List.{List, [], _∷_, map}
-use lib.ListN.{length, getD, take}
+use lib.ListN.{getD, take}
 use lib.Dec.{ltb}
 use Rattle.model.specs.Choice.{if_then_else_}
 use Rattle.model.specs.Table.{Row, Table, noRow}
@@ -66,7 +66,7 @@ treeIn rows c (suc depth) q h =
     record { symbol = r .symbol; children = childrenFrom c (treeIn rows c depth) (r .args) (rowCounts c r) (found .rest) }
 
 -- "Back again": the tree of a number below the total. No more states than there are lie one below the other. For another number no
--- accepting state is found, and what stands here is no tree with symbols from 1
+-- accepting state is found; where targets are states, what stands here then has symbol 0
 unfoldable pub treeOf : Table → (ℕ → ℕ) → ℕ → Tree
 treeOf T c n =
     let found = findBy (map c (T .accepting)) n in

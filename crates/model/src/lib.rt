@@ -1,6 +1,6 @@
 // The answers of every operation: a result, or a refusal with its kind and place.
 ghost use mathlib.Core.Path.{_≡_};
-ghost use Rattle.model.specs.Answers.{kindNumber, outcome, refused};
+ghost use Rattle.model.specs.Answers.{kindNumber};
 
 // The refusals of document 01, in the order of their numbers.
 pub enum Kind {
@@ -43,16 +43,6 @@ pub struct Refusal {
 pub enum Answer {
     Result(u64),
     Refused(Refusal),
-}
-
-// The refusal of this kind at this place.
-pub fn refuse(kind: Kind, place: u64) -> Answer
-    ensures { λ r. ⌜ outcome r ≡ refused (kindNumber kind) place ⌝ }
-{
-    Answer::Refused(Refusal {
-        place: place,
-        kind: kind,
-    })
 }
 
 // Document 01's number of a kind of refusal.

@@ -1,14 +1,12 @@
 -- Laws of the first number with a property, of 'some number below', and of the tests on rows. Assumes nothing.
 use Prim.Native.Nat.{ℕ, zero, suc, _+_, _<_}
-use mathlib.Core.Path.{_≡_, refl, sym, ap, _∙_}
-use mathlib.Core.Bool.{Bool, true, false, _&&_, _||_}
-use mathlib.Core.List.{List, [], _∷_}
+use mathlib.Core.Path.{_≡_, refl, sym, _∙_}
+use mathlib.Core.Bool.{Bool, true, false, _||_}
 use native.Mathlib.Omega.{arith}
 use native.Mathlib.Numerals.{add-one}
-use lib.Dec.{ltb, eqb}
-use borrow.Author.Tests.{ltb-true, ltb-false, eqb-true, eq-eqb}
+use lib.Dec.{ltb}
+use borrow.Author.Tests.{ltb-true, ltb-false}
 use Rattle.model.specs.Choice.{anyBelow}
-use Rattle.model.specs.Table.{Row, sameList, rowIs}
 use Rattle.rows.specs.declared.Found.{Found}
 use Rattle.rows.specs.declared.Found.the-variants.{At, Nothing}
 use Rattle.rows.specs.Laid.{orElse, firstWith}
@@ -79,14 +77,6 @@ module _ (p : ℕ → Bool) where
           (omega arith, (rw same at v), rw same at (first-none n u))
       go Nothing false u v h ih = apart r (sym h)
 
-  -- where some number below n has the property, one is found
-  pub some-first : (n k : ℕ) → k < n → p k ≡ true → isAt (firstWith p n) ≡ true
-  some-first n k lt t = go (firstWith p n) refl
-    where
-      go : (o : Found) → firstWith p n ≡ o → isAt o ≡ true
-      go (At r) e = refl
-      go Nothing e = absurd (first-none n e k lt t)
-
   -- nothing below n and not n: nothing below n + 1
   pub first-more : (n : ℕ) → firstWith p n ≡ Nothing → p n ≡ false → firstWith p (n + 1) ≡ Nothing
   unfolding firstWith orElse
@@ -102,9 +92,3 @@ module _ (p : ℕ → Bool) where
       go (At r) t = refl
       go Nothing true = refl
       go Nothing false = refl
-
--- two properties that agree below n have the same first
-pub first-same : (p q : ℕ → Bool) (n : ℕ) → ((k : ℕ) → k < n → p k ≡ q k) → firstWith p n ≡ firstWith q n
-unfolding firstWith
-first-same p q zero f = refl
-first-same p q (suc n) f = rw (first-same p q n (λ k lt. f k (omega arith)), f n (omega arith))

@@ -1,13 +1,13 @@
 -- Laws of the tests on rows. Assumes nothing.
-use Prim.Native.Nat.{ℕ, zero, suc, _+_, _*_, _-_, _<_, _≤_}
-use mathlib.Core.Path.{_≡_, refl, sym, ap, _∙_}
-use mathlib.Core.Bool.{Bool, true, false, _&&_, _||_, not}
-use mathlib.Core.List.{List, [], _∷_, _++_}
+use Prim.Native.Nat.{ℕ, _+_, _*_, _-_, _<_, _≤_}
+use mathlib.Core.Path.{_≡_, refl, ap, _∙_}
+use mathlib.Core.Bool.{Bool, true, false, _&&_}
+use mathlib.Core.List.{List}
 use native.Mathlib.Omega.{arith}
 use native.Mathlib.Numerals.{add-one}
 use lib.ListN.{length, getD, set, take, drop, drop-of-length-le, length-set}
 use lib.Seq.{drop-cons, getD-set-same, getD-set-other}
-use lib.Dec.{ltb, leb, eqb}
+use lib.Dec.{ltb, leb}
 use borrow.Author.Tests.{ltb-false, leb-false}
 use borrow.Author.Count.{below-more}
 use Rattle.model.specs.declared.Kind.{Kind}
@@ -17,6 +17,7 @@ use Rattle.model.specs.Choice.{if_then_else_}
 use Rattle.model.specs.Table.{rowAt, rowStart, countAt, argsAt}
 use Rattle.model.specs.Check.{allBelow, cut, tooMany, outOfRange, notBelow}
 use Rattle.model.proofs.Choice.{or-false}
+use Rattle.model.proofs.Checked.{not-cut}
 use Rattle.rows.specs.declared.RowStep.{RowStep}
 use Rattle.rows.specs.declared.RowStep.the-variants.{Next, Faulty}
 use Rattle.rows.specs.declared.Walked.the-variants.{Passed, Stopped}
@@ -31,13 +32,6 @@ below-step n l i lt = rw (add-one, drop-cons l i 0)
 pub below-end : (n : ℕ) (l : List ℕ) (i : ℕ) → length l ≤ i → allBelow n (drop i l) ≡ true
 unfolding allBelow
 below-end n l i ge = rw (drop-of-length-le l {i = i} ge)
-
--- a row that is not cut is whole
-pub uncut : (rows : List ℕ) (at : ℕ) → at < length rows → cut rows at ≡ false → Whole rows at
-unfolding cut
-uncut rows at lt e =
-    let p = or-false (ltb (length rows - at) 3) (ltb (length rows - at - 3) (countAt rows at)) e in
-    omega (arith, ltb-false (length rows - at) 3 (p .0), ltb-false (length rows - at - 3) (countAt rows at) (p .1))
 
 -- the part of the rows that the code lends is the row's arguments
 pub part-is : (rows : List ℕ) (at a n : ℕ) → at ≡ a → n ≡ countAt rows at → take (at + 3 + n - (at + 3)) (drop (at + 3) rows) ≡ argsAt rows a
@@ -68,7 +62,7 @@ stepped states rows i at next lt e =
         let t = or-false (leb 1024 i) (ltb 16 (countAt rows at)) q in
         record {
           on = cc;
-          whole = uncut rows at lt p;
+          whole = not-cut rows at p;
           early = leb-false 1024 i (t .0);
           few = ltb-false 16 (countAt rows at) (t .1);
         }
@@ -146,7 +140,3 @@ walk-ends {states} {rows} {offsets} {at} {n} w ge = record {
   where
     other : (m : ℕ) → Passed n ≡ Passed m → length rows ≤ rowStart rows m
     other m h = let a : n ≡ m = cc in rw (← a) (rw (w .here) at ge)
-
--- the same number of rows
-pub laid-same : {rows offsets : List ℕ} {m n : ℕ} → n ≡ m → Laid rows offsets m → Laid rows offsets n
-laid-same e l = rw e l

@@ -1,9 +1,9 @@
 // Rows packed in one list, taken in turn: refusals 2 to 5, and where each row begins.
 use model::Kind;
 ghost use mathlib.Core.Path.{_≡_};
-ghost use Prim.Native.Nat.{_+_, _<_, _≤_};
+ghost use Prim.Native.Nat.{_+_, _<_};
 ghost use lib.ListN.{length};
-ghost use Rattle.model.specs.Table.{rowAt, rowStart};
+ghost use Rattle.model.specs.Table.{rowAt};
 ghost use Rattle.model.specs.Check.{allBelow, cut, tooMany, outOfRange, notBelow};
 ghost use Rattle.rows.specs.Laid.{Whole};
 ghost use Rattle.rows.specs.Walk.{rowStep, passed, Walk};
@@ -39,7 +39,7 @@ pub fn wider(x: u16) -> u64
 }
 
 // Whether every argument is below n.
-pub fn all_below(args: &[u16], n: u64) -> bool
+fn all_below(args: &[u16], n: u64) -> bool
     ensures { λ r. ⌜ r ≡ allBelow n (now (args .entry)) ⌝ }
 {
     let mut i: usize = 0;

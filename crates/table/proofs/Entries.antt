@@ -1,5 +1,5 @@
 -- Laws of the accepting list's check. Assumes nothing.
-use Prim.Native.Nat.{ℕ, zero, suc, _+_, _-_, _<_, _≤_}
+use Prim.Native.Nat.{ℕ, _+_, _<_, _≤_}
 use mathlib.Core.Path.{_≡_, refl, sym, ap, _∙_}
 use mathlib.Core.Bool.{Bool, true, false, not, _||_}
 use mathlib.Core.List.{List}
@@ -13,7 +13,6 @@ use borrow.Author.Count.{below-more}
 use Rattle.model.specs.Choice.{if_then_else_, anyBelow}
 use Rattle.model.specs.Check.{acceptingGround}
 use Rattle.model.proofs.Choice.{or-right}
-use Rattle.rows.specs.declared.Found.{Found}
 use Rattle.rows.specs.declared.Found.the-variants.{At, Nothing}
 use Rattle.table.specs.Checked.{AllFine, FirstAt, EntriesChecked}
 

@@ -1,28 +1,27 @@
 -- Laws of the check's outcome, part by part. Assumes nothing.
-use Prim.Native.Nat.{ℕ, zero, suc, _+_, _<_, _≤_, min}
+use Prim.Native.Nat.{ℕ, _<_, _≤_, min}
 use mathlib.Core.Path.{_≡_, refl, sym, ap, _∙_}
-use mathlib.Core.List.{List, [], map}
+use mathlib.Core.List.{List, map}
 use native.Mathlib.Omega.{arith}
 use lib.ListN.{length, getD}
 use borrow.Author.Tests.{lt-ltb, le-ltb}
 use Rattle.model.specs.declared.Kind.{Kind}
 use Rattle.model.specs.declared.Kind.the-variants.{TotalAboveLimit}
 use Rattle.model.specs.Answers.{Outcome, result, refused, kindNumber}
-use Rattle.model.specs.Choice.{if_then_else_, firstFaulty}
-use Rattle.model.specs.Table.{rowNumbered, rowStart, howManyRows, tableOf}
+use Rattle.model.specs.Choice.{firstFaulty}
+use Rattle.model.specs.Table.{rowStart, howManyRows, tableOf}
 use Rattle.model.specs.Count.{sum, count, longest, total}
 use Rattle.model.specs.Check.{rowGround, acceptingGround, stateGround, checkWithin, checkOutcome, countLimit}
 use Rattle.model.proofs.Choice.{no-fault, first-fault}
 use Rattle.model.proofs.Counting.{map-agree}
 use Rattle.model.proofs.Rows.{args-length}
-use Rattle.model.proofs.Checked.{GoodRow, row-good, entry-good, state-good}
+use Rattle.model.proofs.Checked.{row-good, entry-good, state-good}
 use Rattle.rows.specs.Laid.{Laid}
 use Rattle.index.specs.Index.{Index}
-use Rattle.counts.specs.declared.StateFault.the-variants.{At, Nothing}
-use Rattle.counts.specs.Chain.{target, InOrder, Chained}
-use Rattle.counts.specs.States.{ceiling, held, Within, rowTable, Known, CountedStates}
+use Rattle.counts.specs.Chain.{InOrder, Chained}
+use Rattle.counts.specs.States.{ceiling, held, Within, rowTable, Known}
 use Rattle.table.specs.declared.Checked.{Checked}
-use Rattle.table.specs.declared.Checked.the-variants.{Passes, Refuses}
+use Rattle.table.specs.declared.Checked.the-variants.{Sound}
 use Rattle.table.specs.Checked.{AllFine, FirstAt, told, refusesAt, statesOutcome, acceptingOutcome, StatesAnswer, Prepared, CheckAnswer}
 use Rattle.model.proofs.Numbers.{kind-positive}
 
@@ -35,12 +34,6 @@ in-order states rows n few fine = record {
   lower = λ r lt. row-good states rows r (fine r lt) .ordered;
 }
 
-pub chained-all : {rows first after : List ℕ} {n m : ℕ} → n ≡ m → Chained rows 0 n first after → Chained rows 0 m first after
-chained-all e c = rw e at c
-
-pub all-fine : {ground : ℕ → ℕ} {n m : ℕ} → n ≡ m → AllFine n ground → AllFine m ground
-all-fine e f = rw e at f
-
 -- no state's ground depends on the accepting list
 ground-same : (states : ℕ) (rows accepting : List ℕ) (q : ℕ) → stateGround countLimit (tableOf states rows accepting) q ≡ stateGround countLimit (rowTable states rows) q
 unfolding stateGround count longest
@@ -48,13 +41,13 @@ ground-same states rows accepting q = refl
 
 -- the accepting states have counts within the limit
 pub entries-within : {states : ℕ} {rows accepting cs ls sums : List ℕ} → states ≤ 256 → AllFine (length accepting) (acceptingGround states accepting)
-    → Known states rows states cs ls sums → Within 4294967295 cs accepting
+    → Known states rows states cs ls sums → Within countLimit cs accepting
 entries-within {states} {rows} {accepting} {cs} {ls} {sums} few fine x = record {
   placed = λ k lt. omega (arith, entry-good states accepting k (fine k lt) .0);
   small = λ k lt. small (getD accepting k 0) (entry-good states accepting k (fine k lt) .0);
 }
   where
-    small : (a : ℕ) → a < states → held cs a ≤ 4294967295
+    small : (a : ℕ) → a < states → held cs a ≤ countLimit
     small a l = rw (x .counts a l) (state-good countLimit (rowTable states rows) a (x .fine a l) .0)
 
 total-same : (states : ℕ) (rows accepting cs : List ℕ) → ((k : ℕ) → k < length accepting → held cs (getD accepting k 0) ≡ count (rowTable states rows) (getD accepting k 0))
@@ -62,8 +55,8 @@ total-same : (states : ℕ) (rows accepting cs : List ℕ) → ((k : ℕ) → k 
 unfolding total count
 total-same states rows accepting cs e = ap sum (map-agree (held cs) (count (rowTable states rows)) 0 accepting e)
 
-apart : {A : Type 0} (k : Kind) (p t m : ℕ) (r : Checked) → r ≡ refusesAt k p → r ≡ Passes t m → A
-apart k p t m r e h = let z : _≡_ {A = ℕ} 0 1 = cc in absurd (omega arith)
+not-sound : {A : Type 0} (k : Kind) (p t m : ℕ) (r : Checked) → r ≡ refusesAt k p → r ≡ Sound t m → A
+not-sound k p t m r e h = let z : _≡_ {A = ℕ} 0 1 = cc in absurd (omega arith)
 
 -- a faulty state: 9 or 10
 fault-is : (states : ℕ) (rows accepting : List ℕ) (q : ℕ) (k : Kind)
@@ -85,11 +78,11 @@ module _ (states : ℕ) (rows accepting cs ls sums : List ℕ) (fine : AllFine (
   states-clear o = no-fault states (stateGround countLimit (tableOf states rows accepting)) o (λ a l. ground-same states rows accepting a ∙ x .fine a l)
 
   -- above the limit: 11
-  over-is : 4294967295 < t → refused 11 0 ≡ statesOutcome states rows accepting
+  over-is : countLimit < t → refused 11 0 ≡ statesOutcome states rows accepting
   unfolding statesOutcome
   over-is gt = rw (states-clear _, lt-ltb countLimit (total (tableOf states rows accepting)) (omega (arith, total-kept)))
 
-  pass-is : t ≤ 4294967295 → result t ≡ statesOutcome states rows accepting
+  pass-is : t ≤ countLimit → result t ≡ statesOutcome states rows accepting
   unfolding statesOutcome
   pass-is le =
       let y : t ≡ total (tableOf states rows accepting) = omega (arith, total-kept) in
@@ -101,9 +94,9 @@ module _ (states : ℕ) (rows accepting : List ℕ) (n : ℕ) (first after cs ls
       → StatesAnswer states rows accepting n first after cs ls sums r
   states-refused k p r e h = record {
     answer = ap told e ∙ h;
-    rows-are = λ t m z. apart k p t m r e z;
-    chained = λ t m z. apart k p t m r e z;
-    known = λ t m z. apart k p t m r e z;
+    rows-are = λ t m z. not-sound k p t m r e z;
+    chained = λ t m z. not-sound k p t m r e z;
+    known = λ t m z. not-sound k p t m r e z;
   }
 
   pub states-fault : (q : ℕ) (k : Kind) (r : Checked) → r ≡ refusesAt k q
@@ -112,10 +105,10 @@ module _ (states : ℕ) (rows accepting : List ℕ) (n : ℕ) (first after cs ls
   states-fault q k r e f = states-refused k q r e (fault-is states rows accepting q k f)
 
   module _ (fine : AllFine (length accepting) (acceptingGround states accepting)) (x : Known states rows states cs ls sums) (t : ℕ) (e : t ≡ min (sum (map (held cs) accepting)) ceiling) where
-    pub states-over : (r : Checked) → 4294967295 < t → r ≡ refusesAt TotalAboveLimit 0 → StatesAnswer states rows accepting n first after cs ls sums r
+    pub states-over : (r : Checked) → countLimit < t → r ≡ refusesAt TotalAboveLimit 0 → StatesAnswer states rows accepting n first after cs ls sums r
     states-over r gt h = states-refused TotalAboveLimit 0 r h (over-is states rows accepting cs ls sums fine x t e gt)
 
-    pub states-pass : t ≤ 4294967295 → Chained rows 0 n first after → StatesAnswer states rows accepting n first after cs ls sums (Passes t n)
+    pub states-pass : t ≤ countLimit → Chained rows 0 n first after → StatesAnswer states rows accepting n first after cs ls sums (Sound t n)
     states-pass le c = record {
       answer = pass-is states rows accepting cs ls sums fine x t e le;
       rows-are = λ t′ m z. let y : n ≡ m = cc in sym y;
@@ -158,7 +151,7 @@ module _ (states : ℕ) (rows accepting : List ℕ) where
   module _ {offsets heads next first after counts longest′ sums : List ℕ} where
     pub refused-answer : (k : Kind) (p : ℕ) (r : Checked) → r ≡ refusesAt k p → refused (kindNumber k) p ≡ checkOutcome states rows accepting
         → CheckAnswer states rows accepting offsets heads next first after counts longest′ sums r
-    refused-answer k p r e h = record { answer = ap told e ∙ h; prepared = λ t m z. apart k p t m r e z }
+    refused-answer k p r e h = record { answer = ap told e ∙ h; prepared = λ t m z. not-sound k p t m r e z }
 
     pub states-answer : (n : ℕ) (r : Checked) → states ≤ 256 → n ≡ howManyRows rows → Laid rows offsets n → Index rows n heads next → AllFine n (rowGround states rows)
         → AllFine (length accepting) (acceptingGround states accepting) → length accepting ≤ states
@@ -168,7 +161,7 @@ module _ (states : ℕ) (rows accepting : List ℕ) where
       prepared = λ t m z. ready t m z;
     }
       where
-        ready : (t m : ℕ) → r ≡ Passes t m → Prepared states rows offsets heads next first after counts longest′ sums m
+        ready : (t m : ℕ) → r ≡ Sound t m → Prepared states rows offsets heads next first after counts longest′ sums m
         ready t m z =
             let y : m ≡ n = x .rows-are t m z in
             rw y (record { all = all; laid = laid; index = index; chained = x .chained t m z; known = x .known t m z })

@@ -20,7 +20,6 @@ use Rattle.rows.specs.declared.Found.{Found}
 use Rattle.rows.specs.declared.Found.the-variants.{At, Nothing}
 use Rattle.rows.specs.declared.Walked.{Walked}
 use Rattle.rows.specs.declared.Walked.the-variants.{Passed, Stopped}
-use Rattle.rows.specs.declared.RowStep.{RowStep}
 use Rattle.rows.specs.declared.RowStep.the-variants.{Next, Faulty}
 use Rattle.rows.specs.Laid.{Laid, firstWith}
 use Rattle.rows.specs.Walk.{rowStep, stepGround, formGround, passed, Walk}

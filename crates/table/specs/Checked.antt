@@ -1,14 +1,14 @@
 -- The check in its parts, and what a table that passes leaves for numbering and writing. Assumes nothing: these are definitions.
-use Prim.Native.Nat.{ℕ, zero, suc, _+_, _<_, _≤_, min}
+use Prim.Native.Nat.{ℕ, _<_, _≤_}
 use mathlib.Core.Path.{_≡_}
-use mathlib.Core.List.{List, map}
-use lib.ListN.{length, getD}
+use mathlib.Core.List.{List}
+use lib.ListN.{length}
 use lib.Dec.{ltb}
 use Rattle.model.specs.declared.Kind.{Kind}
-use Rattle.model.specs.declared.Refusal.{Refusal}
-use Rattle.model.specs.Answers.{Outcome, result, refused, kindNumber}
+use Rattle.model.specs.declared.Answer.the-variants.{Refused}
+use Rattle.model.specs.Answers.{Outcome, result, refused, kindNumber, outcome}
 use Rattle.model.specs.Choice.{if_then_else_, firstFaulty}
-use Rattle.model.specs.Table.{rowStart, howManyRows, acceptingStates, tableOf}
+use Rattle.model.specs.Table.{howManyRows, acceptingStates, tableOf}
 use Rattle.model.specs.Count.{total}
 use Rattle.model.specs.Check.{rowGround, acceptingGround, stateGround, checkOutcome, countLimit}
 use Rattle.rows.specs.declared.Found.{Found}
@@ -18,9 +18,9 @@ use Rattle.rows.specs.declared.Walked.the-variants.{Passed, Stopped}
 use Rattle.rows.specs.Laid.{Laid}
 use Rattle.index.specs.Index.{Index, Clear}
 use Rattle.counts.specs.Chain.{Chained, Unchained}
-use Rattle.counts.specs.States.{Known, held}
+use Rattle.counts.specs.States.{Known}
 use Rattle.table.specs.declared.Checked.{Checked}
-use Rattle.table.specs.declared.Checked.the-variants.{Passes, Refuses}
+use Rattle.table.specs.declared.Checked.the-variants.{Sound, Refuses}
 
 -- all of n things are without a ground
 abbrev pub AllFine : ℕ → (ℕ → ℕ) → Type 0
@@ -44,8 +44,8 @@ pub record EntriesChecked (states : ℕ) (accepting : List ℕ) (r : Found) : Ty
 
 -- what a checked answer says
 abbrev pub told : Checked → Outcome
-told (Passes t n) = result t
-told (Refuses r) = refused (kindNumber (r .kind)) (r .place)
+told (Sound t n) = result t
+told (Refuses r) = outcome (Refused r)
 
 -- the check from the states on, and from the accepting list on
 unfoldable pub statesOutcome : (states : ℕ) (rows accepting : List ℕ) → Outcome
@@ -76,9 +76,9 @@ pub record StatesReady (states : ℕ) (rows accepting : List ℕ) (n : ℕ) (off
 -- what it answers, and what a table that passes leaves: chains by target, counts, and the sums of earlier rows
 pub record StatesAnswer (states : ℕ) (rows accepting : List ℕ) (n : ℕ) (first after counts longest sums : List ℕ) (r : Checked) : Type 0 where
   pub answer : told r ≡ statesOutcome states rows accepting
-  pub rows-are : (t m : ℕ) → r ≡ Passes t m → m ≡ n
-  pub chained : (t m : ℕ) → r ≡ Passes t m → Chained rows 0 n first after
-  pub known : (t m : ℕ) → r ≡ Passes t m → Known states rows states counts longest sums
+  pub rows-are : (t m : ℕ) → r ≡ Sound t m → m ≡ n
+  pub chained : (t m : ℕ) → r ≡ Sound t m → Chained rows 0 n first after
+  pub known : (t m : ℕ) → r ≡ Sound t m → Known states rows states counts longest sums
 
 -- arrays that have not been written
 pub record Blank (offsets heads next first after counts longest sums : List ℕ) : Type 0 where
@@ -100,4 +100,4 @@ pub record Prepared (states : ℕ) (rows offsets heads next first after counts l
 -- what the check answers, and what it leaves where the table passes
 pub record CheckAnswer (states : ℕ) (rows accepting offsets heads next first after counts longest sums : List ℕ) (r : Checked) : Type 0 where
   pub answer : told r ≡ checkOutcome states rows accepting
-  pub prepared : (t n : ℕ) → r ≡ Passes t n → Prepared states rows offsets heads next first after counts longest sums n
+  pub prepared : (t n : ℕ) → r ≡ Sound t n → Prepared states rows offsets heads next first after counts longest sums n

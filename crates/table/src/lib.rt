@@ -6,19 +6,16 @@ use model::Refusal;
 use rows::Found;
 use rows::Walked;
 ghost use mathlib.Core.Path.{_≡_};
-ghost use Prim.Native.Nat.{ℕ, _<_, _≤_, min};
-ghost use mathlib.Core.List.{map};
-ghost use lib.ListN.{length, getD};
+ghost use Prim.Native.Nat.{_≤_};
+ghost use lib.ListN.{length};
 ghost use Rattle.model.specs.Answers.{outcome};
-ghost use Rattle.model.specs.Count.{sum};
 ghost use Rattle.model.specs.Check.{checkOutcome};
-ghost use Rattle.counts.specs.States.{Within, held, ceiling};
 ghost use Rattle.index.specs.Index.{Clear};
 ghost use Rattle.table.specs.Checked.{EntriesChecked, RowsChecked, refusesAt, StatesReady, StatesAnswer, Blank, CheckAnswer};
 
 // What the internal check finds: the total and how many rows there are, or the refusal.
 pub enum Checked {
-    Passes(u64, usize),
+    Sound(u64, usize),
     Refuses(Refusal),
 }
 
@@ -41,20 +38,6 @@ fn faulty_entry(states: u64, accepting: &[u16]) -> Found
         i += 1;
     }
     Found::Nothing
-}
-
-// The sum of the counts of the accepting states, kept to one above the limit.
-fn total_of(accepting: &[u16], counts: &[u64; 256]) -> u64
-    requires { ⌜ Within 4294967295 (now counts) (now accepting) ⌝ }
-    ensures { λ r. ⌜ r ≡ min (sum (map (held (now (counts .entry))) (now (accepting .entry)))) ceiling ⌝ }
-{
-    let mut total: u64 = 0;
-    let mut i: usize = 0;
-    while i < accepting.len() {
-        total = counts::plus(total, counts[rows::wide(accepting[i])]);
-        i += 1;
-    }
-    total
 }
 
 // The rows in turn by the grounds 2 to 6: how many there are, with their offsets and their index; or the first faulty one.
@@ -114,11 +97,11 @@ fn check_states(
     ) {
         StateFault::At(q, kind) => refuses(kind, q as u64),
         StateFault::Nothing => {
-            let total = total_of(accepting, &*counts);
-            if 4294967295 < total {
+            let total = counts::sum_of(accepting, &*counts);
+            if counts::LIMIT < total {
                 return refuses(Kind::TotalAboveLimit, 0);
             }
-            Checked::Passes(total, n)
+            Checked::Sound(total, n)
         }
     }
 }
@@ -193,7 +176,7 @@ pub fn check(states: u64, rows: &[u16], accepting: &[u16]) -> Answer
         &mut longest,
         &mut sums,
     ) {
-        Checked::Passes(total, _) => Answer::Result(total),
+        Checked::Sound(total, _) => Answer::Result(total),
         Checked::Refuses(r) => Answer::Refused(r),
     }
 }

@@ -6,7 +6,6 @@ use mathlib.Core.Bool.{Bool, cond}
 use mathlib.Core.Path.{_≡_, ap, sym}
 use native.Mathlib.Omega.{arith}
 use Rattle.cases.specs.Decimal.{grown}
-use Rattle.cases.specs.declared.Grown.{Grown}
 use Rattle.cases.specs.declared.Grown.the-variants.{Fits, TooLarge}
 use Rattle.cases.proofs.grow.Statement.{statement}
 use Rattle.cases.proofs.grow.Tie as tie

@@ -1,16 +1,14 @@
 -- The rows of the state are counted along their chain; each turn counts the row that the link leads to.
-use Prim.Native.Nat.{ℕ, suc, _<_, _≤_, _+_, _-_, min}
-use mathlib.Core.Path.{_≡_, refl, sym, ap, _∙_}
-use mathlib.Core.List.{List}
+use Prim.Native.Nat.{suc, _<_, _≤_, _+_, _-_}
+use mathlib.Core.Path.{_≡_, _∙_}
 use native.Mathlib.Omega.{arith}
 use native.Mathlib.Nat.{min-le-right}
 use borrow.Author.Needs.{needs}
-use lib.ListN.{length, getD, take, drop}
-use Rattle.model.specs.Table.{rowStart, rowNumbered, countAt, argsAt, howManyRows}
+use lib.ListN.{length, take, drop}
+use Rattle.model.specs.Table.{rowStart, rowNumbered, howManyRows}
 use Rattle.rows.specs.Laid.{Whole}
 use Rattle.rows.proofs.Laws.{part-is}
-use Rattle.counts.specs.Chain.{target, leads, Link}
-use Rattle.counts.specs.States.{ceiling, Within, longer}
+use Rattle.counts.specs.Chain.{target, leads, TargetLink}
 use Rattle.counts.proofs.Chain.{leads-row}
 use Rattle.counts.proofs.States.{Summing, sum-begins, sum-goes, sum-ends}
 use Rattle.counts.proofs.count_state.Statement.{statement}
@@ -43,7 +41,7 @@ args : (c : tie.After-args2 Inv-loop μ-loop)
     ≡ rowNumbered (c .before .before .before .before .before .before .before .before .before .before .args .rows .now) (c .before .before .before .before .before .before .loop .p - 1) .args
 args c = part-is _ _ _ _ (start (c .before .before .before)) (c .before .wide3 .ensures)
 
-link : (c : tie.After-wide4 Inv-loop μ-loop) → Link (c .before .before .before .before .before .before .before .before .before .before .before .before .before .before .before .args .rows .now) (c .before .before .before .before .before .before .before .before .before .before .before .before .before .before .before .args .q) (suc (c .before .before .before .before .before .before .before .before .before .before .before .loop .p - 1)) (howManyRows (c .before .before .before .before .before .before .before .before .before .before .before .before .before .before .before .args .rows .now)) (c .wide4 .result)
+link : (c : tie.After-wide4 Inv-loop μ-loop) → TargetLink (c .before .before .before .before .before .before .before .before .before .before .before .before .before .before .before .args .rows .now) (c .before .before .before .before .before .before .before .before .before .before .before .before .before .before .before .args .q) (suc (c .before .before .before .before .before .before .before .before .before .before .before .loop .p - 1)) (howManyRows (c .before .before .before .before .before .before .before .before .before .before .before .before .before .before .before .args .rows .now)) (c .wide4 .result)
 link c = rw (c .wide4 .ensures, ← (mine (c .before .before .before .before .before .before .before .before .before .before))) (c .before .before .before .before .before .before .before .before .before .before .before .before .before .before .before .pre .chained .afters (c .before .before .before .before .before .before .before .before .before .before .before .loop .p - 1) (omega arith) (row (c .before .before .before .before .before .before .before .before .before .before)))
 
 mul-wide : tie.Need-mul-wide Inv-loop μ-loop

@@ -1,8 +1,6 @@
 -- The states below q are counted and none of them is faulty.
-use Prim.Native.Nat.{_<_, _≤_, _-_}
-use mathlib.Core.Path.{_≡_, refl, sym, ap, _∙_}
+use Prim.Native.Nat.{_≤_, _-_}
 use native.Mathlib.Omega.{arith}
-use borrow.Author.Needs.{needs}
 use Rattle.counts.specs.States.{Known}
 use Rattle.counts.proofs.All.{known-begins, countable, count-fault, length-fault, fault-found, known-more, all-known}
 use Rattle.counts.proofs.count_states.Statement.{statement}

@@ -1,7 +1,7 @@
 use native.Mathlib.Nat.{min-le-right}
 -- The product of the arguments passed, kept to the limit, and of those that are left is the product of all, kept to the limit.
-use Prim.Native.Nat.{_≤_, _*_, _-_, min, _<_, _+_}
-use mathlib.Core.Path.{_≡_, refl, sym, ap, _∙_}
+use Prim.Native.Nat.{_≤_, _*_, _-_, min, _<_}
+use mathlib.Core.Path.{_≡_, ap}
 use mathlib.Core.List.{map}
 use native.Mathlib.Omega.{arith}
 use borrow.Author.Needs.{needs}

@@ -1,5 +1,4 @@
 -- A product that fits 64 bits, since one factor is below the limit.
-use native.Mathlib.Omega.{arith}
 use borrow.Author.Needs.{needs}
 use Rattle.counts.proofs.Kept.{fits-times}
 use borrow.Author.Needs.{needs}

@@ -1,4 +1,3 @@
-use native.Mathlib.Omega.{arith}
 use Rattle.model.specs.Check.{notBelow}
 use borrow.Author.Needs.{needs}
 use Rattle.rows.proofs.is_not_below.Statement.{statement}

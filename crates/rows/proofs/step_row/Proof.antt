@@ -1,17 +1,16 @@
-use Prim.Native.Nat.{_+_, _≤_}
-use mathlib.Core.Path.{_≡_, refl, sym, ap, _∙_}
+use Rattle.model.proofs.Checked.{not-cut}
+use mathlib.Core.Path.{refl, sym, _∙_}
 use native.Mathlib.Omega.{arith}
-use lib.ListN.{length}
 use Rattle.rows.specs.Laid.{Whole}
 use Rattle.rows.specs.Walk.{rowStep}
-use Rattle.rows.proofs.Laws.{uncut, part-is}
+use Rattle.rows.proofs.Laws.{part-is}
 use borrow.Author.Needs.{needs}
 use Rattle.rows.proofs.step_row.Statement.{statement}
 use Rattle.rows.proofs.step_row.Tie as tie
 
 -- past the first test the row is whole
 whole : (c : tie.Else1) → Whole (c .before .before .before .args .rows .now) (c .before .before .before .args .at)
-whole c = uncut _ _ (c .before .before .before .pre) (sym (c .before .is-cut .ensures) ∙ c .if1 .left)
+whole c = not-cut _ _ (sym (c .before .is-cut .ensures) ∙ c .if1 .left)
 
 is-cut-requires : tie.Need-is-cut-requires
 is-cut-requires c κs = search needs

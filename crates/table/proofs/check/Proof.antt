@@ -1,5 +1,5 @@
 use Prim.Native.Nat.{ℕ}
-use mathlib.Core.Path.{_≡_, refl, sym, ap, _∙_}
+use mathlib.Core.Path.{sym, ap, _∙_}
 use lib.ListN.{length-replicate, getD-replicate}
 use Rattle.table.specs.Checked.{told}
 use borrow.Author.Needs.{needs}

@@ -1,7 +1,6 @@
-use mathlib.Core.Path.{_≡_, refl, sym, ap, _∙_}
-use native.Mathlib.Omega.{arith}
+use mathlib.Core.Path.{_∙_}
 use Rattle.model.proofs.Numbers.{kind-positive}
-use Rattle.table.proofs.Outcomes.{all-fine, too-many, row-refused, rows-passed, entry-refused, list-refused, refused-answer, states-answer}
+use Rattle.table.proofs.Outcomes.{too-many, row-refused, rows-passed, entry-refused, list-refused, refused-answer, states-answer}
 use borrow.Author.Needs.{needs}
 use Rattle.table.proofs.check_into.Statement.{statement}
 use Rattle.table.proofs.check_into.Tie as tie
@@ -43,7 +42,7 @@ returns-2 : tie.Need-returns-2
 returns-2 c =
     let w = c .before .before .before .before .before .before .before .before .check-rows .ensures .passed _ (c .before .before .before .before .before .before .n .given .1) in
     refused-answer _ _ _ _ _ _ (c .refuses4 .ensures)
-    (list-refused _ _ _ (c .before .before .before .before .faulty-entry .ensures .none (c .before .before .enum-told .given .1)) (c .before .if2 .taken) ∙ rows-passed _ _ _ (c .before .before .before .before .before .before .before .before .before .before .before .before .if1 .left) (all-fine (w .0) (w .3)))
+    (list-refused _ _ _ (c .before .before .before .before .faulty-entry .ensures .none (c .before .before .enum-told .given .1)) (c .before .if2 .taken) ∙ rows-passed _ _ _ (c .before .before .before .before .before .before .before .before .before .before .before .before .if1 .left) (rw (w .0) at (w .3)))
 
 check-states-requires : tie.Need-check-states-requires
 check-states-requires c κs =
@@ -70,7 +69,7 @@ returns-4 : tie.Need-returns-4
 returns-4 c =
     let w = c .before .before .before .before .before .before .before .before .check-rows .ensures .passed _ (c .before .before .before .before .before .before .n .given .1) in
     refused-answer _ _ _ _ _ _ (c .refuses3 .ensures)
-    (entry-refused _ _ _ _ (c .before .before .before .before .faulty-entry .ensures .some _ (c .before .before .i .given .1)) ∙ rows-passed _ _ _ (c .before .before .before .before .before .before .before .before .before .before .before .before .if1 .left) (all-fine (w .0) (w .3)))
+    (entry-refused _ _ _ _ (c .before .before .before .before .faulty-entry .ensures .some _ (c .before .before .i .given .1)) ∙ rows-passed _ _ _ (c .before .before .before .before .before .before .before .before .before .before .before .before .if1 .left) (rw (w .0) at (w .3)))
 
 returns-5 : tie.Need-returns-5
 returns-5 c =

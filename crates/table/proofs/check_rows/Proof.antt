@@ -1,5 +1,3 @@
-use mathlib.Core.Path.{_≡_, refl, sym, ap, _∙_}
-use Rattle.rows.proofs.Laws.{laid-same}
 use Rattle.table.proofs.Rows.{rows-repeat, rows-clear}
 use borrow.Author.Needs.{needs}
 use Rattle.table.proofs.check_rows.Statement.{statement}
@@ -12,7 +10,7 @@ passed-rows-requires : tie.Need-passed-rows-requires
 passed-rows-requires c κs = search needs
 
 first-duplicate-requires : tie.Need-first-duplicate-requires
-first-duplicate-requires c κs = (laid-same (c .before .before .before .passed-rows .ensures) (c .before .before .before .before .walk-rows .ensures .laid), c .before .before .before .before .before .before .before .pre .1)
+first-duplicate-requires c κs = (rw (c .before .before .before .passed-rows .ensures) (c .before .before .before .before .walk-rows .ensures .laid), c .before .before .before .before .before .before .before .pre .1)
 
 enum-known-r : tie.Need-enum-known-r
 enum-known-r c = search needs

@@ -1,10 +1,6 @@
-use mathlib.Core.Path.{_≡_, refl, sym, ap, _∙_}
 use native.Mathlib.Omega.{arith}
-use Rattle.rows.proofs.Laws.{laid-same}
-use Rattle.table.proofs.Outcomes.{in-order, chained-all, entries-within, states-fault, states-over, states-pass}
+use Rattle.table.proofs.Outcomes.{in-order, entries-within, states-fault, states-over, states-pass}
 use Rattle.counts.specs.Chain.{InOrder}
-use Rattle.counts.specs.States.{Known}
-use Rattle.model.specs.Table.{howManyRows}
 use borrow.Author.Needs.{needs}
 use Rattle.table.proofs.check_states.Statement.{statement}
 use Rattle.table.proofs.check_states.Tie as tie
@@ -21,9 +17,9 @@ count-states-requires c κs =
     let s = c .before .before .before .before .before .before .before .before .before .before in
     record {
       given = record {
-        laid = laid-same (sym (s .pre .all)) (s .pre .laid);
+        laid = rw (s .pre .all) at (s .pre .laid);
         ordered = rw (s .pre .all) at (order s);
-        chained = chained-all (s .pre .all) (c .before .before .before .before .before .chain-rows .ensures);
+        chained = rw (s .pre .all) at (c .before .before .before .before .before .chain-rows .ensures);
       };
       cs-long = s .pre .counts-long;
       ls-long = s .pre .longest-long;
@@ -39,20 +35,20 @@ refuses-requires c κs = search needs
 enum-told : tie.Need-enum-told
 enum-told c = search needs
 
-total-of-requires : tie.Need-total-of-requires
-total-of-requires c κs = entries-within (c .before .before .before .before .before .before .before .before .before .before .before .before .before .before .pre .few) (c .before .before .before .before .before .before .before .before .before .before .before .before .before .before .pre .entries-fine) (c .before .before .before .count-states .ensures .all (c .before .enum-told .given .1))
+sum-of-requires : tie.Need-sum-of-requires
+sum-of-requires c κs = entries-within (c .before .before .before .before .before .before .before .before .before .before .before .before .before .before .pre .few) (c .before .before .before .before .before .before .before .before .before .before .before .before .before .before .pre .entries-fine) (c .before .before .before .count-states .ensures .all (c .before .enum-told .given .1))
 
 refuses-requires-2 : tie.Need-refuses-requires-2
 refuses-requires-2 c κs = search needs
 
 returns : tie.Need-returns
-returns c = states-over _ _ _ _ _ _ _ _ _ (c .before .before .before .before .before .before .before .before .before .before .before .before .before .before .before .before .before .pre .entries-fine) (c .before .before .before .before .before .before .count-states .ensures .all (c .before .before .before .before .enum-told .given .1)) _ (c .before .before .total-of .ensures) _ (c .before .if1 .taken) (c .refuses2 .ensures)
+returns c = states-over _ _ _ _ _ _ _ _ _ (c .before .before .before .before .before .before .before .before .before .before .before .before .before .before .before .before .before .pre .entries-fine) (c .before .before .before .before .before .before .count-states .ensures .all (c .before .before .before .before .enum-told .given .1)) _ (c .before .before .sum-of .ensures) _ (c .before .if1 .taken) (c .refuses2 .ensures)
 
 returns-2 : tie.Need-returns-2
 returns-2 c = states-fault _ _ _ _ _ _ _ _ _ _ _ _ (c .refuses .ensures) (c .before .before .before .before .count-states .ensures .fault _ _ (c .before .before .q .given .1))
 
 returns-3 : tie.Need-returns-3
-returns-3 c = states-pass _ _ _ _ _ _ _ _ _ (c .before .before .before .before .before .before .before .before .before .before .before .before .before .before .before .before .pre .entries-fine) (c .before .before .before .before .before .count-states .ensures .all (c .before .before .before .enum-told .given .1)) _ (c .before .total-of .ensures) (c .if1 .left) (c .before .before .before .before .before .before .before .before .before .before .before .chain-rows .ensures)
+returns-3 c = states-pass _ _ _ _ _ _ _ _ _ (c .before .before .before .before .before .before .before .before .before .before .before .before .before .before .before .before .pre .entries-fine) (c .before .before .before .before .before .count-states .ensures .all (c .before .before .before .enum-told .given .1)) _ (c .before .sum-of .ensures) (c .if1 .left) (c .before .before .before .before .before .before .before .before .before .before .before .chain-rows .ensures)
 
 pub check-states-spec : {M : Type 1} → statement M
 check-states-spec =
@@ -63,7 +59,7 @@ check-states-spec =
     enum-known-q
     refuses-requires
     enum-told
-    total-of-requires
+    sum-of-requires
     refuses-requires-2
     returns
     returns-2

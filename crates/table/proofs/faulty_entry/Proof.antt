@@ -1,6 +1,5 @@
 -- The entries passed are without fault, and the states that they name are marked.
-use Prim.Native.Nat.{ℕ, _<_, _≤_, _-_}
-use mathlib.Core.Path.{_≡_, refl, sym, ap, _∙_}
+use Prim.Native.Nat.{ℕ, _<_, _-_}
 use native.Mathlib.Omega.{arith}
 use borrow.Author.Needs.{needs}
 use lib.ListN.{length, length-replicate, getD-replicate}

@@ -1,6 +1,3 @@
-use mathlib.Core.Path.{_≡_, refl, sym, ap, _∙_}
-use Rattle.model.specs.Answers.{outcome}
-use Rattle.treenum_c.specs.Returned.{numberOf, valueOf}
 use Rattle.treenum_c.proofs.Laws.{gave, turned-away}
 use borrow.Author.Needs.{needs}
 use Rattle.treenum_c.proofs.treenum_check.Statement.{statement}

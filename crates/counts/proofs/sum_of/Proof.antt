@@ -1,22 +1,22 @@
 -- The kept sum over the entries passed and the sum over those that are left are together the sum over all, kept to the limit.
 use Prim.Native.Nat.{_<_, _≤_, _+_, _-_, min}
-use mathlib.Core.Path.{_≡_, refl, sym, ap, _∙_}
+use mathlib.Core.Path.{_≡_, ap}
 use mathlib.Core.List.{map}
 use native.Mathlib.Omega.{arith}
 use native.Mathlib.Nat.{min-le-right}
 use borrow.Author.Needs.{needs}
 use lib.ListN.{length, drop}
 use Rattle.model.specs.Count.{sum}
 use Rattle.counts.specs.States.{held, ceiling}
 use Rattle.counts.proofs.Kept.{kept-goes, kept-ends}
-use Rattle.table.proofs.total_of.Statement.{statement}
-use Rattle.table.proofs.total_of.Tie as tie
+use Rattle.counts.proofs.sum_of.Statement.{statement}
+use Rattle.counts.proofs.sum_of.Tie as tie
 
 abbrev Inv-loop : tie.InvT-loop
-Inv-loop accepting counts total₀ i₀ total i = (total ≤ ceiling) × (min (total + sum (map (held counts) (drop i accepting))) ceiling ≡ min (sum (map (held counts) accepting)) ceiling)
+Inv-loop list values total₀ i₀ total i = (total ≤ ceiling) × (min (total + sum (map (held values) (drop i list))) ceiling ≡ min (sum (map (held values) list)) ceiling)
 
 abbrev μ-loop : tie.MeasureT-loop
-μ-loop accepting counts total₀ i₀ total i = length accepting - i
+μ-loop list values total₀ i₀ total i = length list - i
 
 -- the entry at hand has a place among the counts
 placed : (c : tie.After-wide Inv-loop μ-loop) → c .wide .result < 256
@@ -52,15 +52,15 @@ loop-less c = search needs
 loop-again : tie.Need-loop-again Inv-loop μ-loop
 loop-again c = (
   rw (c .plus .ensures) (min-le-right _ _),
-  kept-goes (held (c .before .before .before .before .before .before .before .args .counts .now)) (c .before .before .before .before .before .before .before .args .accepting .now) (c .before .before .before .before .before .loop .i) (c .before .before .before .before .loop-test .taken) ceiling (c .before .before .before .before .before .loop .total) _ _ _
-      (ap (held (c .before .before .before .before .before .before .before .args .counts .now)) (c .before .before .wide .ensures)) (c .plus .ensures) (c .before .before .before .before .before .loop .inv .1),
+  kept-goes (held (c .before .before .before .before .before .before .before .args .values .now)) (c .before .before .before .before .before .before .before .args .list .now) (c .before .before .before .before .before .loop .i) (c .before .before .before .before .loop-test .taken) ceiling (c .before .before .before .before .before .loop .total) _ _ _
+      (ap (held (c .before .before .before .before .before .before .before .args .values .now)) (c .before .before .wide .ensures)) (c .plus .ensures) (c .before .before .before .before .before .loop .inv .1),
 )
 
 returns : tie.Need-returns Inv-loop μ-loop
 returns c = kept-ends _ _ _ _ _ _ (c .loop-test .left) (c .before .loop .inv .0) (c .before .loop .inv .1)
 
-pub total-of-spec : {M : Type 1} → statement M
-total-of-spec =
+pub sum-of-spec : {M : Type 1} → statement M
+sum-of-spec =
     tie.close
     (tie.spec
     Inv-loop
