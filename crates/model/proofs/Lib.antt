@@ -8,5 +8,6 @@ pub mod Reaching
 pub mod Checked
 pub mod Longest
 pub mod Passing
+pub mod Paper
 pub mod Serial
 pub mod States
