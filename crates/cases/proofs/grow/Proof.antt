@@ -23,20 +23,11 @@ fits v d h =
 returns : tie.Need-returns
 returns c = too-large (c .before .args .value) (c .before .args .digit) (omega arith)
 
-mul-tens : tie.Need-mul-tens
-mul-tens c = search needs
-
-sub-if2 : tie.Need-sub-if2
-sub-if2 c = search needs
-
 returns-2 : tie.Need-returns-2
 returns-2 c = too-large (c .before .before .args .value) (c .before .before .args .digit) (omega arith)
-
-add-t5 : tie.Need-add-t5
-add-t5 c = search needs
 
 returns-3 : tie.Need-returns-3
 returns-3 c = fits (c .before .before .args .value) (c .before .before .args .digit) (omega arith)
 
 pub grow-spec : {M : Type 1} → statement M
-grow-spec = tie.close (tie.spec returns mul-tens sub-if2 returns-2 add-t5 returns-3)
+grow-spec = tie.close (tie.spec returns (λ c. search needs) (λ c. search needs) returns-2 (λ c. search needs) returns-3)

@@ -35,17 +35,8 @@ last c = omega arith
 loop-holds : tie.Need-loop-holds Inv-loop μ-loop
 loop-holds c = (omega arith, unchained _ _ _ _ (c .before .pre .1 .1))
 
-sub-m : tie.Need-sub-m Inv-loop μ-loop
-sub-m c = search needs
-
-mul-wide : tie.Need-mul-wide Inv-loop μ-loop
-mul-wide c = search needs
-
 element-copy-out-wide : tie.Need-element-copy-out-wide Inv-loop μ-loop
 element-copy-out-wide c = omega (arith, c .before .before .before .pre .0 .many)
-
-wide-requires : tie.Need-wide-requires Inv-loop μ-loop
-wide-requires c κs = search needs
 
 add-wide : tie.Need-add-wide Inv-loop μ-loop
 add-wide c = omega (arith, start c, whole c)
@@ -55,9 +46,6 @@ mul-wide-2 c = omega (arith, start c, whole c)
 
 shared-slice-read-wide : tie.Need-shared-slice-read-wide Inv-loop μ-loop
 shared-slice-read-wide c = omega (arith, start (c .before), whole (c .before))
-
-wide-requires-2 : tie.Need-wide-requires-2 Inv-loop μ-loop
-wide-requires-2 c κs = search needs
 
 mul-after : tie.Need-mul-after Inv-loop μ-loop
 mul-after c = omega (arith, state c)
@@ -71,9 +59,6 @@ mul-after-2 c = omega (arith, c .before .before .before .before .before .before 
 element-write-after : tie.Need-element-write-after Inv-loop μ-loop
 element-write-after c = omega (arith, c .before .before .before .before .before .before .before .before .pre .0 .many)
 
-add-first : tie.Need-add-first Inv-loop μ-loop
-add-first c = search needs
-
 cast-first : tie.Need-cast-first Inv-loop μ-loop
 cast-first c = omega (arith, c .before .before .before .before .before .before .before .before .pre .0 .many)
 
@@ -82,9 +67,6 @@ mul-first c = omega (arith, state (c .before))
 
 element-write-first : tie.Need-element-write-first Inv-loop μ-loop
 element-write-first c = state (c .before)
-
-loop-less : tie.Need-loop-less Inv-loop μ-loop
-loop-less c = search needs
 
 loop-again : tie.Need-loop-again Inv-loop μ-loop
 loop-again c = (omega arith, chain-more (c .before .before .before .before .before .before .loop .inv .1) (c .before .before .before .before .before .before .loop .m - 1) (c .before .wide2 .result) (omega arith) (omega arith) (c .before .before .before .before .before .before .before .before .pre .0 .many) (is (c .before)) (state (c .before)))
@@ -99,22 +81,22 @@ chain-rows-spec =
     Inv-loop
     μ-loop
     loop-holds
-    sub-m
-    mul-wide
+    (λ c. search needs)
+    (λ c. search needs)
     element-copy-out-wide
-    wide-requires
+    (λ c κs. search needs)
     add-wide
     mul-wide-2
     shared-slice-read-wide
-    wide-requires-2
+    (λ c κs. search needs)
     mul-after
     element-copy-out-after
     mul-after-2
     element-write-after
-    add-first
+    (λ c. search needs)
     cast-first
     mul-first
     element-write-first
-    loop-less
+    (λ c. search needs)
     loop-again
     returns)

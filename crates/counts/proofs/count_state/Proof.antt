@@ -50,23 +50,14 @@ mul-wide c = omega (arith, c .before .pre .state)
 element-copy-out-wide : tie.Need-element-copy-out-wide Inv-loop μ-loop
 element-copy-out-wide c = c .before .pre .state
 
-wide-requires : tie.Need-wide-requires Inv-loop μ-loop
-wide-requires c κs = search needs
-
 loop-holds : tie.Need-loop-holds Inv-loop μ-loop
 loop-holds c = rw (c .wide .ensures) (sum-begins _ _ _ _ _ _ (c .before .before .before .pre .sums-long) (c .before .before .before .pre .chained .firsts _ (c .before .before .before .pre .state)))
-
-sub-r : tie.Need-sub-r Inv-loop μ-loop
-sub-r c = omega arith
 
 mul-wide-2 : tie.Need-mul-wide-2 Inv-loop μ-loop
 mul-wide-2 c = omega (arith, row c, c .before .before .before .before .before .pre .laid .many)
 
 element-copy-out-wide-2 : tie.Need-element-copy-out-wide-2 Inv-loop μ-loop
 element-copy-out-wide-2 c = omega (arith, row c, c .before .before .before .before .before .pre .laid .many)
-
-wide-requires-2 : tie.Need-wide-requires-2 Inv-loop μ-loop
-wide-requires-2 c κs = search needs
 
 add-from : tie.Need-add-from Inv-loop μ-loop
 add-from c = omega (arith, whole c)
@@ -79,9 +70,6 @@ mul-wide-3 c = omega (arith, whole c)
 
 shared-slice-read-wide : tie.Need-shared-slice-read-wide Inv-loop μ-loop
 shared-slice-read-wide c = omega (arith, whole (c .before))
-
-wide-requires-3 : tie.Need-wide-requires-3 Inv-loop μ-loop
-wide-requires-3 c κs = search needs
 
 add-end : tie.Need-add-end Inv-loop μ-loop
 add-end c = omega (arith, end-within c)
@@ -119,9 +107,6 @@ mul-wide-4 c = omega (arith, row (c .before .before .before .before .before .bef
 element-copy-out-wide-3 : tie.Need-element-copy-out-wide-3 Inv-loop μ-loop
 element-copy-out-wide-3 c = omega (arith, row (c .before .before .before .before .before .before .before .before), c .before .before .before .before .before .before .before .before .before .before .before .before .before .pre .laid .many)
 
-wide-requires-4 : tie.Need-wide-requires-4 Inv-loop μ-loop
-wide-requires-4 c κs = search needs
-
 loop-less : tie.Need-loop-less Inv-loop μ-loop
 loop-less c = omega (arith, row (c .before .before .before .before .before .before .before .before .before .before), link c .from, link c .within, leads-row (c .before .before .before .before .before .before .before .before .before .before .before .loop .p) (howManyRows (c .before .before .before .before .before .before .before .before .before .before .before .before .before .before .before .args .rows .now)) (c .before .before .before .before .before .before .before .before .before .before .loop-test .taken))
 
@@ -141,17 +126,17 @@ count-state-spec =
     μ-loop
     mul-wide
     element-copy-out-wide
-    wide-requires
+    (λ c κs. search needs)
     loop-holds
-    sub-r
+    (λ c. omega arith)
     mul-wide-2
     element-copy-out-wide-2
-    wide-requires-2
+    (λ c κs. search needs)
     add-from
     add-wide
     mul-wide-3
     shared-slice-read-wide
-    wide-requires-3
+    (λ c κs. search needs)
     add-end
     mul-args
     sub-args
@@ -164,7 +149,7 @@ count-state-spec =
     longer-of-requires
     mul-wide-4
     element-copy-out-wide-3
-    wide-requires-4
+    (λ c κs. search needs)
     loop-less
     loop-again
     returns)

@@ -42,12 +42,6 @@ mul-longest c = omega (arith, c .before .before .before .before .before .before 
 element-write-longest : tie.Need-element-write-longest Inv-loop μ-loop
 element-write-longest c = omega (arith, c .before .before .before .before .before .before .before .before .before .pre .given .ordered .few)
 
-add-q : tie.Need-add-q Inv-loop μ-loop
-add-q c = omega arith
-
-loop-less : tie.Need-loop-less Inv-loop μ-loop
-loop-less c = omega arith
-
 loop-again : tie.Need-loop-again Inv-loop μ-loop
 loop-again c = (omega arith, known-more (c .before .before .before .before .before .before .before .before .before .pre .given) (c .before .before .before .before .before .before .before .loop .inv .1) (c .before .before .before .before .before .before .loop-test .taken) (c .before .before .count-state .ensures) (c .before .if1 .left) (c .if2 .left))
 
@@ -68,7 +62,7 @@ count-states-spec =
     element-write-counts
     mul-longest
     element-write-longest
-    add-q
-    loop-less
+    (λ c. omega arith)
+    (λ c. omega arith)
     loop-again
     returns-3)

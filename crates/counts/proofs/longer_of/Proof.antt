@@ -26,9 +26,6 @@ returns c = simp (le-ltb 0 _ (let h : c .before .before .args .w ≤ 0 = omega a
 sum-of-requires : tie.Need-sum-of-requires
 sum-of-requires c κs = within-more _ _ (c .before .before .pre .1)
 
-add-n : tie.Need-add-n
-add-n c = search needs
-
 returns-2 : tie.Need-returns-2
 returns-2 c = simp (lt-ltb 0 _ (pos (c .before .before)), whole (c .before)) (sym (max-eq-right (le-of-lt (rw (whole (c .before)) at (c .if2 .taken)))))
 
@@ -36,4 +33,4 @@ returns-3 : tie.Need-returns-3
 returns-3 c = simp (lt-ltb 0 _ (pos (c .before .before))) (sym (max-eq-left (rw (whole (c .before)) at (c .if2 .left))))
 
 pub longer-of-spec : {M : Type 1} → statement M
-longer-of-spec = tie.close (tie.spec returns sum-of-requires add-n returns-2 returns-3)
+longer-of-spec = tie.close (tie.spec returns sum-of-requires (λ c. search needs) returns-2 returns-3)

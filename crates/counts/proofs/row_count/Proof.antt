@@ -25,15 +25,6 @@ placed c = rw (c .wide .ensures) (c .before .before .before .before .before .pre
 loop-holds : tie.Need-loop-holds Inv-loop μ-loop
 loop-holds c = (omega arith, omega arith, product-begins _ _)
 
-mul-wide : tie.Need-mul-wide Inv-loop μ-loop
-mul-wide c = search needs
-
-shared-slice-read-wide : tie.Need-shared-slice-read-wide Inv-loop μ-loop
-shared-slice-read-wide c = search needs
-
-wide-requires : tie.Need-wide-requires Inv-loop μ-loop
-wide-requires c κs = search needs
-
 mul-times : tie.Need-mul-times Inv-loop μ-loop
 mul-times c = omega (arith, placed c)
 
@@ -42,12 +33,6 @@ element-copy-out-times c = placed c
 
 times-requires : tie.Need-times-requires Inv-loop μ-loop
 times-requires c κs = (c .before .before .before .before .loop .inv .1, rw (c .before .wide .ensures) (omega (arith, c .before .before .before .before .before .before .pre .small (c .before .before .before .before .loop .i) (c .before .before .before .loop-test .taken))))
-
-add-i : tie.Need-add-i Inv-loop μ-loop
-add-i c = search needs
-
-loop-less : tie.Need-loop-less Inv-loop μ-loop
-loop-less c = search needs
 
 loop-again : tie.Need-loop-again Inv-loop μ-loop
 loop-again c = (
@@ -67,13 +52,13 @@ row-count-spec =
     Inv-loop
     μ-loop
     loop-holds
-    mul-wide
-    shared-slice-read-wide
-    wide-requires
+    (λ c. search needs)
+    (λ c. search needs)
+    (λ c κs. search needs)
     mul-times
     element-copy-out-times
     times-requires
-    add-i
-    loop-less
+    (λ c. search needs)
+    (λ c. search needs)
     loop-again
     returns)

@@ -25,15 +25,6 @@ placed c = rw (c .wide .ensures) (c .before .before .before .before .before .pre
 loop-holds : tie.Need-loop-holds Inv-loop μ-loop
 loop-holds c = (omega arith, omega arith)
 
-mul-wide : tie.Need-mul-wide Inv-loop μ-loop
-mul-wide c = search needs
-
-shared-slice-read-wide : tie.Need-shared-slice-read-wide Inv-loop μ-loop
-shared-slice-read-wide c = search needs
-
-wide-requires : tie.Need-wide-requires Inv-loop μ-loop
-wide-requires c κs = search needs
-
 mul-plus : tie.Need-mul-plus Inv-loop μ-loop
 mul-plus c = omega (arith, placed c)
 
@@ -42,12 +33,6 @@ element-copy-out-plus c = placed c
 
 plus-requires : tie.Need-plus-requires Inv-loop μ-loop
 plus-requires c κs = (c .before .before .before .before .loop .inv .0, rw (c .before .wide .ensures) (omega (arith, c .before .before .before .before .before .before .pre .small (c .before .before .before .before .loop .i) (c .before .before .before .loop-test .taken))))
-
-add-i : tie.Need-add-i Inv-loop μ-loop
-add-i c = search needs
-
-loop-less : tie.Need-loop-less Inv-loop μ-loop
-loop-less c = search needs
 
 loop-again : tie.Need-loop-again Inv-loop μ-loop
 loop-again c = (
@@ -66,13 +51,13 @@ sum-of-spec =
     Inv-loop
     μ-loop
     loop-holds
-    mul-wide
-    shared-slice-read-wide
-    wide-requires
+    (λ c. search needs)
+    (λ c. search needs)
+    (λ c κs. search needs)
     mul-plus
     element-copy-out-plus
     plus-requires
-    add-i
-    loop-less
+    (λ c. search needs)
+    (λ c. search needs)
     loop-again
     returns)

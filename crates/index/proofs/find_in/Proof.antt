@@ -11,31 +11,10 @@ Inv-loop rows offsets heads next n b symbol args p₀ p = Walk rows symbol args 
 abbrev μ-loop : tie.MeasureT-loop
 μ-loop rows offsets heads next n b symbol args p₀ p = p
 
-mul-wide : tie.Need-mul-wide Inv-loop μ-loop
-mul-wide c = search needs
-
-element-copy-out-wide : tie.Need-element-copy-out-wide Inv-loop μ-loop
-element-copy-out-wide c = search needs
-
-wide-requires : tie.Need-wide-requires Inv-loop μ-loop
-wide-requires c κs = search needs
-
 loop-holds : tie.Need-loop-holds Inv-loop μ-loop
 loop-holds c =
     let st = c .before .before .before .before in
     rw (c .wide .ensures) (walk-begins _ _ _ (st .pre .1 .0) (st .args .b) (st .pre .1 .1 .0) (st .pre .1 .1 .1))
-
-sub-r : tie.Need-sub-r Inv-loop μ-loop
-sub-r c = search needs
-
-mul-wide-2 : tie.Need-mul-wide-2 Inv-loop μ-loop
-mul-wide-2 c = search needs
-
-element-copy-out-wide-2 : tie.Need-element-copy-out-wide-2 Inv-loop μ-loop
-element-copy-out-wide-2 c = search needs
-
-wide-requires-2 : tie.Need-wide-requires-2 Inv-loop μ-loop
-wide-requires-2 c κs = search needs
 
 row-is-requires : tie.Need-row-is-requires Inv-loop μ-loop
 row-is-requires c κs =
@@ -49,15 +28,6 @@ returns c =
     let st = q .before .before .before .before .before in
     let told = row-told (st .pre .0) (q .loop .p - 1) _ (omega (arith, q .loop .inv .within)) (c .before .before .wide2 .ensures) _ _ _ _ (c .before .row-is .ensures) (c .if1 .taken) in
     walk-finds _ _ _ (st .pre .1 .0) (q .loop .p) (q .loop .inv) (c .before .before .before .before .loop-test .taken) told
-
-mul-wide-3 : tie.Need-mul-wide-3 Inv-loop μ-loop
-mul-wide-3 c = search needs
-
-element-copy-out-wide-3 : tie.Need-element-copy-out-wide-3 Inv-loop μ-loop
-element-copy-out-wide-3 c = search needs
-
-wide-requires-3 : tie.Need-wide-requires-3 Inv-loop μ-loop
-wide-requires-3 c κs = search needs
 
 loop-less : tie.Need-loop-less Inv-loop μ-loop
 loop-less c =
@@ -85,19 +55,19 @@ find-in-spec =
     (tie.spec
     Inv-loop
     μ-loop
-    mul-wide
-    element-copy-out-wide
-    wide-requires
+    (λ c. search needs)
+    (λ c. search needs)
+    (λ c κs. search needs)
     loop-holds
-    sub-r
-    mul-wide-2
-    element-copy-out-wide-2
-    wide-requires-2
+    (λ c. search needs)
+    (λ c. search needs)
+    (λ c. search needs)
+    (λ c κs. search needs)
     row-is-requires
     returns
-    mul-wide-3
-    element-copy-out-wide-3
-    wide-requires-3
+    (λ c. search needs)
+    (λ c. search needs)
+    (λ c κs. search needs)
     loop-less
     loop-again
     returns-2)

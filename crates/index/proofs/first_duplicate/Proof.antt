@@ -46,15 +46,6 @@ asked c =
 loop-holds : tie.Need-loop-holds Inv-loop μ-loop
 loop-holds c = (index-begins _ _ _ (c .before .pre .1), search needs)
 
-mul-wide : tie.Need-mul-wide Inv-loop μ-loop
-mul-wide c = search needs
-
-element-copy-out-wide : tie.Need-element-copy-out-wide Inv-loop μ-loop
-element-copy-out-wide c = search needs
-
-wide-requires : tie.Need-wide-requires Inv-loop μ-loop
-wide-requires c κs = search needs
-
 add-from : tie.Need-add-from Inv-loop μ-loop
 add-from c = omega (arith, row c)
 
@@ -66,9 +57,6 @@ mul-wide-2 c = omega (arith, row c)
 
 shared-slice-read-wide : tie.Need-shared-slice-read-wide Inv-loop μ-loop
 shared-slice-read-wide c = omega (arith, row (c .before))
-
-wide-requires-2 : tie.Need-wide-requires-2 Inv-loop μ-loop
-wide-requires-2 c κs = search needs
 
 add-end : tie.Need-add-end Inv-loop μ-loop
 add-end c = omega (arith, bound c)
@@ -91,16 +79,10 @@ part-args-start c = omega (arith, bound (c .before))
 part-args-end : tie.Need-part-args-end Inv-loop μ-loop
 part-args-end c = omega (arith, bound (c .before))
 
-hash-requires : tie.Need-hash-requires Inv-loop μ-loop
-hash-requires c κs = search needs
-
 find-in-requires : tie.Need-find-in-requires Inv-loop μ-loop
 find-in-requires c κs =
     let q = c .before .before .before .before .before .before .before .before .before .before in
     (laid-below (q .loop .n) (q .loop .inv .1) (q .before .before .pre .0), (q .loop .inv .0, c .before .before .hash .ensures))
-
-enum-told : tie.Need-enum-told Inv-loop μ-loop
-enum-told c = search needs
 
 returns : tie.Need-returns Inv-loop μ-loop
 returns c =
@@ -110,39 +92,6 @@ returns c =
       answer = repeat-found (q .before .before .args .rows .now) (q .loop .n) (q .before .before .args .m) (q .loop .inv .0 .distinct) (f .before .before .before .before .before .before .before .before .before .before .loop-test .taken) (asked f ∙ ap (λ (o : Found). isAt o) (c .enum-told .given .1));
       index = λ h. apart _ h;
     }
-
-enum-told-2 : tie.Need-enum-told-2 Inv-loop μ-loop
-enum-told-2 c = search needs
-
-mul-next : tie.Need-mul-next Inv-loop μ-loop
-mul-next c = search needs
-
-element-copy-out-next : tie.Need-element-copy-out-next Inv-loop μ-loop
-element-copy-out-next c = search needs
-
-mul-next-2 : tie.Need-mul-next-2 Inv-loop μ-loop
-mul-next-2 c = search needs
-
-element-write-next : tie.Need-element-write-next Inv-loop μ-loop
-element-write-next c = search needs
-
-add-heads : tie.Need-add-heads Inv-loop μ-loop
-add-heads c = search needs
-
-cast-heads : tie.Need-cast-heads Inv-loop μ-loop
-cast-heads c = search needs
-
-mul-heads : tie.Need-mul-heads Inv-loop μ-loop
-mul-heads c = search needs
-
-element-write-heads : tie.Need-element-write-heads Inv-loop μ-loop
-element-write-heads c = search needs
-
-add-n : tie.Need-add-n Inv-loop μ-loop
-add-n c = search needs
-
-loop-less : tie.Need-loop-less Inv-loop μ-loop
-loop-less c = search needs
 
 loop-again : tie.Need-loop-again Inv-loop μ-loop
 loop-again c =
@@ -167,14 +116,14 @@ first-duplicate-spec =
     Inv-loop
     μ-loop
     loop-holds
-    mul-wide
-    element-copy-out-wide
-    wide-requires
+    (λ c. search needs)
+    (λ c. search needs)
+    (λ c κs. search needs)
     add-from
     add-wide
     mul-wide-2
     shared-slice-read-wide
-    wide-requires-2
+    (λ c κs. search needs)
     add-end
     mul-symbol
     shared-slice-read-symbol
@@ -182,20 +131,20 @@ first-duplicate-spec =
     sub-args
     part-args-start
     part-args-end
-    hash-requires
+    (λ c κs. search needs)
     find-in-requires
-    enum-told
+    (λ c. search needs)
     returns
-    enum-told-2
-    mul-next
-    element-copy-out-next
-    mul-next-2
-    element-write-next
-    add-heads
-    cast-heads
-    mul-heads
-    element-write-heads
-    add-n
-    loop-less
+    (λ c. search needs)
+    (λ c. search needs)
+    (λ c. search needs)
+    (λ c. search needs)
+    (λ c. search needs)
+    (λ c. search needs)
+    (λ c. search needs)
+    (λ c. search needs)
+    (λ c. search needs)
+    (λ c. search needs)
+    (λ c. search needs)
     loop-again
     returns-2)

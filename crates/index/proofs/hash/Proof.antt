@@ -18,41 +18,17 @@ Inv-loop symbol args h₀ i₀ h i = (i ≤ length args) × (h < 4294967296) × 
 abbrev μ-loop : tie.MeasureT-loop
 μ-loop symbol args h₀ i₀ h i = length args - i
 
-wider-requires : tie.Need-wider-requires Inv-loop μ-loop
-wider-requires c κs = search needs
-
 loop-holds : tie.Need-loop-holds Inv-loop μ-loop
 loop-holds c = (search needs, omega (arith, c .wider .ensures, c .before .before .fits .symbol), rw (c .wider .ensures))
 
-mul-h : tie.Need-mul-h Inv-loop μ-loop
-mul-h c = search needs
-
-mul-wider : tie.Need-mul-wider Inv-loop μ-loop
-mul-wider c = search needs
-
-shared-slice-read-wider : tie.Need-shared-slice-read-wider Inv-loop μ-loop
-shared-slice-read-wider c = search needs
-
-wider-requires-2 : tie.Need-wider-requires-2 Inv-loop μ-loop
-wider-requires-2 c κs = search needs
-
 add-h : tie.Need-add-h Inv-loop μ-loop
 add-h c = omega (arith, c .wider2 .ensures, c .before .shared-slice-known2 .given (c .before .before .before .loop .i))
-
-add-i : tie.Need-add-i Inv-loop μ-loop
-add-i c = search needs
-
-loop-less : tie.Need-loop-less Inv-loop μ-loop
-loop-less c = search needs
 
 loop-again : tie.Need-loop-again Inv-loop μ-loop
 loop-again c =
     let q = c .before .before .before in
     let l = q .before .before .before .args .args .now in
     (search needs, mod-lt _ (omega arith), rw (c .wider2 .ensures) (sym (mix-step (q .loop .h) l (q .loop .i) (c .before .before .loop-test .taken)) ∙ q .loop .inv .2))
-
-mul-result : tie.Need-mul-result Inv-loop μ-loop
-mul-result c = search needs
 
 returns : tie.Need-returns Inv-loop μ-loop
 unfolding hashOf
@@ -67,15 +43,15 @@ hash-spec =
     (tie.spec
     Inv-loop
     μ-loop
-    wider-requires
+    (λ c κs. search needs)
     loop-holds
-    mul-h
-    mul-wider
-    shared-slice-read-wider
-    wider-requires-2
+    (λ c. search needs)
+    (λ c. search needs)
+    (λ c. search needs)
+    (λ c κs. search needs)
     add-h
-    add-i
-    loop-less
+    (λ c. search needs)
+    (λ c. search needs)
     loop-again
-    mul-result
+    (λ c. search needs)
     returns)

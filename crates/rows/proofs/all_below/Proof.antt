@@ -19,23 +19,8 @@ abbrev μ-loop : tie.MeasureT-loop
 loop-holds : tie.Need-loop-holds Inv-loop μ-loop
 loop-holds c = (omega arith, refl)
 
-mul-wider : tie.Need-mul-wider Inv-loop μ-loop
-mul-wider c = search needs
-
-shared-slice-read-wider : tie.Need-shared-slice-read-wider Inv-loop μ-loop
-shared-slice-read-wider c = search needs
-
-wider-requires : tie.Need-wider-requires Inv-loop μ-loop
-wider-requires c κs = search needs
-
 returns : tie.Need-returns Inv-loop μ-loop
 returns c = rw (below-step (c .before .before .before .before .before .before .args .n) (c .before .before .before .before .before .before .args .args .now) (c .before .before .before .before .loop .i) (c .before .before .before .loop-test .taken), ← (c .before .wider .ensures), le-ltb _ _ (c .if1 .taken)) at (c .before .before .before .before .loop .inv .1)
-
-add-i : tie.Need-add-i Inv-loop μ-loop
-add-i c = search needs
-
-loop-less : tie.Need-loop-less Inv-loop μ-loop
-loop-less c = search needs
 
 loop-again : tie.Need-loop-again Inv-loop μ-loop
 loop-again c = (omega arith, rw (below-step (c .before .before .before .before .before .before .args .n) (c .before .before .before .before .before .before .args .args .now) (c .before .before .before .before .loop .i) (c .before .before .before .loop-test .taken), ← (c .before .wider .ensures), lt-ltb _ _ (c .if1 .left)) at (c .before .before .before .before .loop .inv .1))
@@ -50,11 +35,11 @@ all-below-spec =
     Inv-loop
     μ-loop
     loop-holds
-    mul-wider
-    shared-slice-read-wider
-    wider-requires
+    (λ c. search needs)
+    (λ c. search needs)
+    (λ c κs. search needs)
     returns
-    add-i
-    loop-less
+    (λ c. search needs)
+    (λ c. search needs)
     loop-again
     returns-2)

@@ -4,12 +4,6 @@ use borrow.Author.Needs.{needs}
 use Rattle.rows.proofs.is_out_of_range.Statement.{statement}
 use Rattle.rows.proofs.is_out_of_range.Tie as tie
 
-mul-symbol : tie.Need-mul-symbol
-mul-symbol c = search needs
-
-shared-slice-read-symbol : tie.Need-shared-slice-read-symbol
-shared-slice-read-symbol c = search needs
-
 returns : tie.Need-returns
 unfolding outOfRange
 returns c = simp (eq-eqb _ _ (c .if1 .taken))
@@ -18,24 +12,9 @@ returns-2 : tie.Need-returns-2
 unfolding outOfRange
 returns-2 c = simp (ne-eqb _ _ (c .before .if1 .left), lt-ltb _ _ (c .if2 .taken))
 
-add-wider : tie.Need-add-wider
-add-wider c = search needs
-
-mul-wider : tie.Need-mul-wider
-mul-wider c = search needs
-
-shared-slice-read-wider : tie.Need-shared-slice-read-wider
-shared-slice-read-wider c = search needs
-
-wider-requires : tie.Need-wider-requires
-wider-requires c κs = search needs
-
 returns-3 : tie.Need-returns-3
 unfolding outOfRange
 returns-3 c = simp (ne-eqb _ _ (c .before .before .before .before .if1 .left), le-ltb _ _ (c .before .before .before .if2 .left), le-ltb _ _ (rw (c .before .wider .ensures) at (c .if3 .taken)))
-
-all-below-requires : tie.Need-all-below-requires
-all-below-requires c κs = search needs
 
 returns-4 : tie.Need-returns-4
 unfolding outOfRange
@@ -45,14 +24,14 @@ pub is-out-of-range-spec : {M : Type 1} → statement M
 is-out-of-range-spec =
     tie.close
     (tie.spec
-    mul-symbol
-    shared-slice-read-symbol
+    (λ c. search needs)
+    (λ c. search needs)
     returns
     returns-2
-    add-wider
-    mul-wider
-    shared-slice-read-wider
-    wider-requires
+    (λ c. search needs)
+    (λ c. search needs)
+    (λ c. search needs)
+    (λ c κs. search needs)
     returns-3
-    all-below-requires
+    (λ c κs. search needs)
     returns-4)

@@ -12,46 +12,19 @@ use Rattle.rows.proofs.step_row.Tie as tie
 whole : (c : tie.Else1) → Whole (c .before .before .before .args .rows .now) (c .before .before .before .args .at)
 whole c = not-cut _ _ (sym (c .before .is-cut .ensures) ∙ c .if1 .left)
 
-is-cut-requires : tie.Need-is-cut-requires
-is-cut-requires c κs = search needs
-
 returns : tie.Need-returns
 unfolding rowStep
 returns c = simp (sym (c .before .is-cut .ensures) ∙ c .if1 .taken)
 
-add-wide : tie.Need-add-wide
-add-wide c = search needs
-
-mul-wide : tie.Need-mul-wide
-mul-wide c = search needs
-
 shared-slice-read-wide : tie.Need-shared-slice-read-wide
 shared-slice-read-wide c = omega (arith, whole (c .before))
-
-wide-requires : tie.Need-wide-requires
-wide-requires c κs = search needs
-
-is-too-many-requires : tie.Need-is-too-many-requires
-is-too-many-requires c κs = search needs
 
 returns-2 : tie.Need-returns-2
 unfolding rowStep
 returns-2 c = simp (sym (c .before .before .before .before .before .is-cut .ensures) ∙ c .before .before .before .before .if1 .left, ← (c .before .before .wide .ensures), sym (c .before .is-too-many .ensures) ∙ c .if2 .taken)
 
-add-from : tie.Need-add-from
-add-from c = search needs
-
 add-end : tie.Need-add-end
 add-end c = omega (arith, whole (c .before .before .before .before), c .before .before .wide .ensures)
-
-mul-args : tie.Need-mul-args
-mul-args c = search needs
-
-sub-args : tie.Need-sub-args
-sub-args c = search needs
-
-part-args-start : tie.Need-part-args-start
-part-args-start c = search needs
 
 part-args-end : tie.Need-part-args-end
 part-args-end c = omega (arith, whole (c .before .before .before .before), c .before .before .wide .ensures)
@@ -78,19 +51,19 @@ pub step-row-spec : {M : Type 1} → statement M
 step-row-spec =
     tie.close
     (tie.spec
-    is-cut-requires
+    (λ c κs. search needs)
     returns
-    add-wide
-    mul-wide
+    (λ c. search needs)
+    (λ c. search needs)
     shared-slice-read-wide
-    wide-requires
-    is-too-many-requires
+    (λ c κs. search needs)
+    (λ c κs. search needs)
     returns-2
-    add-from
+    (λ c. search needs)
     add-end
-    mul-args
-    sub-args
-    part-args-start
+    (λ c. search needs)
+    (λ c. search needs)
+    (λ c. search needs)
     part-args-end
     is-out-of-range-requires
     returns-3

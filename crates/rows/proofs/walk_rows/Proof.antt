@@ -20,17 +20,8 @@ step c = stepped _ _ _ _ _ (c .before .before .before .before .loop-test .taken)
 loop-holds : tie.Need-loop-holds Inv-loop μ-loop
 loop-holds c = walk-begins _ _ _ (c .before .pre)
 
-step-row-requires : tie.Need-step-row-requires Inv-loop μ-loop
-step-row-requires c κs = search needs
-
-enum-known-end : tie.Need-enum-known-end Inv-loop μ-loop
-enum-known-end c = search needs
-
 cast-offsets : tie.Need-cast-offsets Inv-loop μ-loop
 cast-offsets c = omega (arith, step c .early, c .before .before .before .before .before .loop .inv .near)
-
-mul-offsets : tie.Need-mul-offsets Inv-loop μ-loop
-mul-offsets c = search needs
 
 element-write-offsets : tie.Need-element-write-offsets Inv-loop μ-loop
 element-write-offsets c = omega (arith, step c .early)
@@ -43,9 +34,6 @@ loop-less c = omega (arith, step c .on, step c .whole)
 
 loop-again : tie.Need-loop-again Inv-loop μ-loop
 loop-again c = walk-goes (c .before .before .before .before .before .loop .inv) (c .before .before .before .before .loop-test .taken) _ (sym (c .before .before .before .step-row .ensures) ∙ c .before .end .given .1)
-
-enum-known-kind : tie.Need-enum-known-kind Inv-loop μ-loop
-enum-known-kind c = search needs
 
 returns : tie.Need-returns Inv-loop μ-loop
 returns c = walk-stops (c .before .before .before .before .before .loop .inv) (c .before .before .before .before .loop-test .taken) _ (sym (c .before .before .before .step-row .ensures) ∙ c .before .kind .given .1)
@@ -60,14 +48,14 @@ walk-rows-spec =
     Inv-loop
     μ-loop
     loop-holds
-    step-row-requires
-    enum-known-end
+    (λ c κs. search needs)
+    (λ c. search needs)
     cast-offsets
-    mul-offsets
+    (λ c. search needs)
     element-write-offsets
     add-n
     loop-less
     loop-again
-    enum-known-kind
+    (λ c. search needs)
     returns
     returns-2)

@@ -17,12 +17,6 @@ check-into-requires c κs =
       sums-long = length-replicate {A = ℕ} 1024 0;
     }
 
-enum-known-total : tie.Need-enum-known-total
-enum-known-total c = search needs
-
-enum-known-r : tie.Need-enum-known-r
-enum-known-r c = search needs
-
 returns : tie.Need-returns
 returns c = ap told (sym (c .before .total .given .1)) ∙ c .before .before .before .check-into .ensures .answer
 
@@ -31,4 +25,4 @@ returns-2 c = ap told (sym (c .before .r .given .1)) ∙ c .before .before .befo
 
 pub check-spec : {M : Type 1} → statement M
 check-spec =
-    tie.close (tie.spec check-into-requires enum-known-total enum-known-r returns returns-2)
+    tie.close (tie.spec check-into-requires (λ c. search needs) (λ c. search needs) returns returns-2)

@@ -5,38 +5,8 @@ use borrow.Author.Needs.{needs}
 use Rattle.table.proofs.check_into.Statement.{statement}
 use Rattle.table.proofs.check_into.Tie as tie
 
-refuses-requires : tie.Need-refuses-requires
-refuses-requires c κs = search needs
-
 returns : tie.Need-returns
 returns c = refused-answer _ _ _ _ _ _ (c .refuses .ensures) (too-many _ _ _ (c .before .if1 .taken))
-
-check-rows-requires : tie.Need-check-rows-requires
-check-rows-requires c κs = search needs
-
-enum-known-r : tie.Need-enum-known-r
-enum-known-r c = search needs
-
-refuses-requires-2 : tie.Need-refuses-requires-2
-refuses-requires-2 c κs = search needs
-
-enum-known-n : tie.Need-enum-known-n
-enum-known-n c = search needs
-
-faulty-entry-requires : tie.Need-faulty-entry-requires
-faulty-entry-requires c κs = search needs
-
-enum-known-i : tie.Need-enum-known-i
-enum-known-i c = search needs
-
-refuses-requires-3 : tie.Need-refuses-requires-3
-refuses-requires-3 c κs = search needs
-
-enum-told : tie.Need-enum-told
-enum-told c = search needs
-
-refuses-requires-4 : tie.Need-refuses-requires-4
-refuses-requires-4 c κs = search needs
 
 returns-2 : tie.Need-returns-2
 returns-2 c =
@@ -80,17 +50,17 @@ pub check-into-spec : {M : Type 1} → statement M
 check-into-spec =
     tie.close
     (tie.spec
-    refuses-requires
+    (λ c κs. search needs)
     returns
-    check-rows-requires
-    enum-known-r
-    refuses-requires-2
-    enum-known-n
-    faulty-entry-requires
-    enum-known-i
-    refuses-requires-3
-    enum-told
-    refuses-requires-4
+    (λ c κs. search needs)
+    (λ c. search needs)
+    (λ c κs. search needs)
+    (λ c. search needs)
+    (λ c κs. search needs)
+    (λ c. search needs)
+    (λ c κs. search needs)
+    (λ c. search needs)
+    (λ c κs. search needs)
     returns-2
     check-states-requires
     returns-3

@@ -3,20 +3,8 @@ use borrow.Author.Needs.{needs}
 use Rattle.table.proofs.check_rows.Statement.{statement}
 use Rattle.table.proofs.check_rows.Tie as tie
 
-walk-rows-requires : tie.Need-walk-rows-requires
-walk-rows-requires c κs = search needs
-
-passed-rows-requires : tie.Need-passed-rows-requires
-passed-rows-requires c κs = search needs
-
 first-duplicate-requires : tie.Need-first-duplicate-requires
 first-duplicate-requires c κs = (rw (c .before .before .before .passed-rows .ensures) (c .before .before .before .before .walk-rows .ensures .laid), c .before .before .before .before .before .before .before .pre .1)
-
-enum-known-r : tie.Need-enum-known-r
-enum-known-r c = search needs
-
-enum-told : tie.Need-enum-told
-enum-told c = search needs
 
 returns : tie.Need-returns
 returns c = rows-repeat (c .before .before .before .before .before .before .before .before .walk-rows .ensures) _ _ _ (c .before .before .before .before .before .before .before .passed-rows .ensures) (c .before .before .before .first-duplicate .ensures) (c .before .r .given .1)
@@ -28,10 +16,10 @@ pub check-rows-spec : {M : Type 1} → statement M
 check-rows-spec =
     tie.close
     (tie.spec
-    walk-rows-requires
-    passed-rows-requires
+    (λ c κs. search needs)
+    (λ c κs. search needs)
     first-duplicate-requires
-    enum-known-r
-    enum-told
+    (λ c. search needs)
+    (λ c. search needs)
     returns
     returns-2)

@@ -26,20 +26,8 @@ count-states-requires c κs =
       sums-long = s .pre .sums-long;
     }
 
-enum-known-q : tie.Need-enum-known-q
-enum-known-q c = search needs
-
-refuses-requires : tie.Need-refuses-requires
-refuses-requires c κs = search needs
-
-enum-told : tie.Need-enum-told
-enum-told c = search needs
-
 sum-of-requires : tie.Need-sum-of-requires
 sum-of-requires c κs = entries-within (c .before .before .before .before .before .before .before .before .before .before .before .before .before .before .pre .few) (c .before .before .before .before .before .before .before .before .before .before .before .before .before .before .pre .entries-fine) (c .before .before .before .count-states .ensures .all (c .before .enum-told .given .1))
-
-refuses-requires-2 : tie.Need-refuses-requires-2
-refuses-requires-2 c κs = search needs
 
 returns : tie.Need-returns
 returns c = states-over _ _ _ _ _ _ _ _ _ (c .before .before .before .before .before .before .before .before .before .before .before .before .before .before .before .before .before .pre .entries-fine) (c .before .before .before .before .before .before .count-states .ensures .all (c .before .before .before .before .enum-told .given .1)) _ (c .before .before .sum-of .ensures) _ (c .before .if1 .taken) (c .refuses2 .ensures)
@@ -56,11 +44,11 @@ check-states-spec =
     (tie.spec
     chain-rows-requires
     count-states-requires
-    enum-known-q
-    refuses-requires
-    enum-told
+    (λ c. search needs)
+    (λ c κs. search needs)
+    (λ c. search needs)
     sum-of-requires
-    refuses-requires-2
+    (λ c κs. search needs)
     returns
     returns-2
     returns-3)

@@ -20,24 +20,6 @@ state c = omega (arith, c .before .before .before .wide .ensures, c .before .wid
 loop-holds : tie.Need-loop-holds Inv-loop μ-loop
 loop-holds c = seeing-begins _ _ _ (length-replicate {A = ℕ} 256 0) (λ q lt. getD-replicate {A = ℕ} 256 q 0 0 lt)
 
-mul-wide : tie.Need-mul-wide Inv-loop μ-loop
-mul-wide c = search needs
-
-shared-slice-read-wide : tie.Need-shared-slice-read-wide Inv-loop μ-loop
-shared-slice-read-wide c = search needs
-
-wide-requires : tie.Need-wide-requires Inv-loop μ-loop
-wide-requires c κs = search needs
-
-mul-wider : tie.Need-mul-wider Inv-loop μ-loop
-mul-wider c = search needs
-
-shared-slice-read-wider : tie.Need-shared-slice-read-wider Inv-loop μ-loop
-shared-slice-read-wider c = search needs
-
-wider-requires : tie.Need-wider-requires Inv-loop μ-loop
-wider-requires c κs = search needs
-
 returns : tie.Need-returns Inv-loop μ-loop
 returns c = no-state (c .before .before .before .before .before .before .loop .inv) (c .before .before .before .before .before .before .before .before .pre) (c .before .before .before .before .before .loop-test .taken) _ (c .before .before .before .wide .ensures) (omega (arith, c .before .before .before .wide .ensures, c .before .wider .ensures))
 
@@ -49,12 +31,6 @@ returns-2 c = seen-before (c .before .before .before .before .before .before .be
 
 array-write-seen : tie.Need-array-write-seen Inv-loop μ-loop
 array-write-seen c = omega (arith, state (c .before), c .before .before .before .before .before .before .before .before .before .pre)
-
-add-i : tie.Need-add-i Inv-loop μ-loop
-add-i c = search needs
-
-loop-less : tie.Need-loop-less Inv-loop μ-loop
-loop-less c = search needs
 
 loop-again : tie.Need-loop-again Inv-loop μ-loop
 loop-again c = seeing-goes (c .before .before .before .before .before .before .before .loop .inv) (c .before .before .before .before .before .before .before .before .before .pre) (c .before .before .before .before .before .before .loop-test .taken) _ (c .before .before .before .before .wide .ensures) (state (c .before)) (c .if2 .left)
@@ -69,17 +45,17 @@ faulty-entry-spec =
     Inv-loop
     μ-loop
     loop-holds
-    mul-wide
-    shared-slice-read-wide
-    wide-requires
-    mul-wider
-    shared-slice-read-wider
-    wider-requires
+    (λ c. search needs)
+    (λ c. search needs)
+    (λ c κs. search needs)
+    (λ c. search needs)
+    (λ c. search needs)
+    (λ c κs. search needs)
     returns
     array-read-if2
     returns-2
     array-write-seen
-    add-i
-    loop-less
+    (λ c. search needs)
+    (λ c. search needs)
     loop-again
     returns-3)
