@@ -1,5 +1,5 @@
 -- Products and sums that are kept to a limit on the way. Assumes nothing.
-use Prim.Native.Nat.{ℕ, zero, suc, _+_, _*_, _<_, _≤_, min}
+use Prim.Native.Nat.{ℕ, zero, suc, _+_, _*_, _^_, _<_, _≤_, min}
 use mathlib.Core.Path.{_≡_, refl, sym, ap, _∙_}
 use mathlib.Core.Bool.{Bool, true, false}
 use mathlib.Core.List.{List, [], _∷_, map}
@@ -28,8 +28,8 @@ kept-times l p (suc c) = go (leb p l) refl
         rw (min-eq-right (le-of-lt gt)) (omega arith)
 
 -- the product of a kept number and one below the limit fits
-pub fits-times : (w c : ℕ) → w ≤ 4294967296 → c < 4294967296 → w * c < 18446744073709551616
-fits-times w c a b = let h : c ≤ 4294967295 = omega arith in omega (arith, mul-le-mul a h)
+pub fits-times : (w c : ℕ) → w ≤ ceiling → c < ceiling → w * c < 2 ^ 64
+fits-times w c a b = let h : c ≤ countLimit = omega arith in omega (arith, mul-le-mul a h)
 
 module _ (f : ℕ → ℕ) (args : List ℕ) (i : ℕ) (lt : i < length args) where
   -- one argument more

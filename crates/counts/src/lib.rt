@@ -130,10 +130,7 @@ fn count_state(
     let mut p = rows::wide(first[q]);
     while 0 < p {
         let r = p - 1;
-        let at = rows::wide(offsets[r]);
-        let from = at + 3;
-        let end = from + rows::wide(rows[at + 2]);
-        let args = &rows[from..end];
+        let args = rows::args_at(rows, rows::wide(offsets[r]));
         sums[r] = count;
         let w = row_count(args, counts);
         count = plus(count, w);

@@ -5,19 +5,19 @@ use mathlib.Core.Bool.{Bool, true, false, _&&_}
 use mathlib.Core.List.{List, [], _∷_}
 use native.Mathlib.Omega.{arith}
 use native.Mathlib.Numerals.{add-one}
-use lib.ListN.{length, getD, set, take, drop, drop-of-length-le, length-set}
+use lib.ListN.{length, getD, set, drop, drop-of-length-le, length-set}
 use lib.Seq.{drop-cons, getD-set-same, getD-set-other}
 use lib.Dec.{ltb, eqb}
 use borrow.Author.Tests.{ltb-true, ltb-false, eqb-true, eqb-false}
-use Rattle.model.specs.Table.{sameList, rowIs, rowAt, rowStart, rowNumbered}
+use Rattle.model.specs.Table.{sameList, rowIs, rowAt, argsAt, rowStart, rowNumbered}
 use Rattle.model.specs.Check.{repeated}
 use Rattle.rows.specs.declared.Found.{Found}
 use Rattle.rows.specs.declared.Found.the-variants.{At, Nothing}
-use Rattle.rows.specs.Laid.{Whole, Laid, firstWith}
+use Rattle.rows.specs.Laid.{Laid, firstWith}
 use Rattle.model.proofs.Choice.{any-true}
 use Rattle.model.proofs.Rows.{rowIs-true}
+use Rattle.rows.proofs.Laws.{begins}
 use Rattle.rows.proofs.First.{isAt, none-first, first-at, first-none, first-more, any-first}
-use Rattle.rows.proofs.Laws.{part-is}
 use Rattle.index.specs.Index.{rowFound, mix, mixAll, hashOf, bucketOf, Link, Index, Clear}
 
 drop-next : (l : List ℕ) (i : ℕ) → i < length l → drop i l ≡ getD l i 0 ∷ drop (i + 1) l
@@ -53,26 +53,10 @@ pub mix-end : (h : ℕ) (l : List ℕ) (i : ℕ) → length l ≤ i → mixAll h
 unfolding mixAll
 mix-end h l i ge = rw (drop-of-length-le l {i = i} ge)
 
--- the first rows are laid where all are
-pub laid-below : {rows offsets : List ℕ} {m : ℕ} (n : ℕ) → n ≤ m → Laid rows offsets m → Laid rows offsets n
-laid-below n le l = record {
-  many = omega (arith, l .many);
-  long = l .long;
-  starts = λ r lt. l .starts r (omega arith);
-  whole = λ r lt. l .whole r (omega arith);
-}
-
--- where the offset of row r says, row r begins, and it is whole
-module _ {rows offsets : List ℕ} {n : ℕ} (l : Laid rows offsets n) (r at : ℕ) (lt : r < n) (e : at ≡ getD offsets r 0) where
-  pub begins : at ≡ rowStart rows r
-  begins = e ∙ l .starts r lt
-
-  pub whole-at : Whole rows at
-  whole-at = rw begins (l .whole r lt)
-
-  -- what the test on the row there says, it says of row r
-  pub row-told : (s : ℕ) (xs : List ℕ) (t u : Bool) → t ≡ rowIs (rowAt rows at) s xs → t ≡ u → rowIs (rowNumbered rows r) s xs ≡ u
-  row-told s xs t u f g = rw begins at (sym f ∙ g)
+-- what the test of the row at its offset says of row r
+pub row-told : {rows offsets : List ℕ} {n : ℕ} (l : Laid rows offsets n) (r at : ℕ) (lt : r < n) (e : at ≡ getD offsets r 0) (s : ℕ) (xs : List ℕ) (t u : Bool)
+    → t ≡ rowIs (rowAt rows at) s xs → t ≡ u → rowIs (rowNumbered rows r) s xs ≡ u
+row-told l r at lt e s xs t u f g = rw (begins l r at lt e) at (sym f ∙ g)
 
 -- the row that a chain is walked for
 module _ (rows : List ℕ) (s : ℕ) (xs : List ℕ) where
@@ -141,14 +125,13 @@ unfolding repeated
 repeated-is rows n = any-first (λ j. rowIs (rowNumbered rows j) (rowNumbered rows n .symbol) (rowNumbered rows n .args)) n
 
 -- the answer for the row that begins at `at`, where row n does, says whether row n repeats an earlier one
-pub repeated-by : (rows : List ℕ) (n at w : ℕ) (o : Found) → at ≡ rowStart rows n → w ≡ getD rows (at + 2) 0
-    → o ≡ rowFound rows n (getD rows at 0) (take (at + 3 + w - (at + 3)) (drop (at + 3) rows)) → repeated rows n ≡ isAt o
-repeated-by rows n at w o e f h = repeated-is rows n ∙ ap (λ (y : Found). isAt y) (sym (rw (part-is rows at _ w e f, e) at h))
+pub repeated-by : (rows : List ℕ) (n at : ℕ) (args : List ℕ) (o : Found) → at ≡ rowStart rows n → args ≡ argsAt rows at
+    → o ≡ rowFound rows n (getD rows at 0) args → repeated rows n ≡ isAt o
+repeated-by rows n at args o e f h = repeated-is rows n ∙ ap (λ (y : Found). isAt y) (sym (rw (f, e) at h))
 
 -- its bucket is the bucket of row n
-pub bucket-by : (rows : List ℕ) (n at w b : ℕ) → at ≡ rowStart rows n → w ≡ getD rows (at + 2) 0
-    → b ≡ hashOf (getD rows at 0) (take (at + 3 + w - (at + 3)) (drop (at + 3) rows)) → b ≡ bucketOf rows n
-bucket-by rows n at w b e f h = rw (part-is rows at _ w e f, e) at h
+pub bucket-by : (rows : List ℕ) (n at : ℕ) (args : List ℕ) (b : ℕ) → at ≡ rowStart rows n → args ≡ argsAt rows at → b ≡ hashOf (getD rows at 0) args → b ≡ bucketOf rows n
+bucket-by rows n at args b e f h = rw (f, e) at h
 
 -- row n repeats an earlier one, and no row before it does
 pub repeat-found : (rows : List ℕ) (n m : ℕ) → firstWith (repeated rows) n ≡ Nothing → n < m → repeated rows n ≡ true → At n ≡ firstWith (repeated rows) m

@@ -1,11 +1,12 @@
 // An index of packed rows: the first row that repeats an earlier one, and the row with a symbol and arguments.
 use rows::Found;
+use rows::args_at;
 use rows::wide;
 use rows::wider;
 ghost use mathlib.Core.Path.{_≡_};
 ghost use Prim.Native.Nat.{_<_};
-ghost use Rattle.model.specs.Table.{sameList, rowIs, rowAt};
-ghost use Rattle.rows.specs.Laid.{Whole, Laid};
+ghost use Rattle.model.specs.Table.{sameList, rowIs, rowAt, Whole};
+ghost use Rattle.rows.specs.Laid.{Laid};
 ghost use Rattle.index.specs.Index.{rowFound, hashOf, Index, Clear, Answered};
 
 // Whether two argument lists are equal.
@@ -33,9 +34,7 @@ fn row_is(rows: &[u16], at: usize, symbol: u16, args: &[u16]) -> bool
     if rows[at] != symbol {
         return false;
     }
-    let from = at + 3;
-    let end = from + wide(rows[at + 2]);
-    same(&rows[from..end], args)
+    same(args_at(rows, at), args)
 }
 
 // The bucket of a symbol and arguments.
@@ -119,10 +118,8 @@ pub fn first_duplicate(
     let mut n: usize = 0;
     while n < m {
         let at = wide(offsets[n]);
-        let from = at + 3;
-        let end = from + wide(rows[at + 2]);
         let symbol = rows[at];
-        let args = &rows[from..end];
+        let args = args_at(rows, at);
         let b = hash(symbol, args);
         match find_in(rows, offsets, &*heads, &*next, n, b, symbol, args) {
             Found::At(_) => {

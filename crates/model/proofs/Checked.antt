@@ -12,12 +12,12 @@ use lib.Dec.{eqb, ltb, leb}
 use borrow.Author.Tests.{ltb-true, ltb-false, leb-false, eqb-false, le-ltb, not-false}
 use Rattle.model.specs.Answers.{Outcome, result, refused}
 use Rattle.model.specs.Choice.{if_then_else_, firstFaulty, anyBelow}
-use Rattle.model.specs.Table.{Row, Table, noRow, pack, countAt, rowStart, rowNumbered, howManyRows, rowsOf, rowIs, acceptingStates, tableOf}
+use Rattle.model.specs.Table.{Row, Table, noRow, pack, countAt, rowStart, rowNumbered, howManyRows, rowsOf, rowIs, acceptingStates, tableOf, Whole}
 use Rattle.model.specs.Count.{count, total, longest}
 use Rattle.model.specs.Check.{allBelow, isState, cut, tooMany, outOfRange, notBelow, repeated, rowGround, acceptingGround, stateGround, checkWithin, countLimit, checkOutcome, Passes}
 use Rattle.model.proofs.Choice.{if-no, if-result, if-zero, or-false, and-true, not-both, no-fault, no-fault-back, Decided, clear, faulty, decided, any-false}
 use Rattle.model.proofs.Good.{AllBelow, below-none, below-cons, Once, once-few, Good, Within}
-use Rattle.model.proofs.Rows.{Whole, args-length, rowsOf-length, rowsOf-at, pack-rowsOf, rowIs-yes}
+use Rattle.model.proofs.Rows.{args-length, rowsOf-length, rowsOf-at, pack-rowsOf, rowIs-yes}
 
 -- ---- no ground
 

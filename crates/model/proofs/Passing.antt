@@ -9,12 +9,12 @@ use lib.ListN.{length, getD}
 use lib.Dec.{eqb, ltb, leb}
 use borrow.Author.Tests.{lt-ltb, le-ltb, lt-leb, ne-eqb}
 use Rattle.model.specs.Answers.{result}
-use Rattle.model.specs.Table.{Row, Table, noRow, pack, countAt, rowStart, rowNumbered, howManyRows, rowsOf, rowIs, tableOf}
+use Rattle.model.specs.Table.{Row, Table, noRow, pack, countAt, rowStart, rowNumbered, howManyRows, rowsOf, rowIs, tableOf, Whole}
 use Rattle.model.specs.Count.{count, total, longest}
 use Rattle.model.specs.Check.{allBelow, cut, tooMany, outOfRange, notBelow, repeated, rowGround, acceptingGround, stateGround, checkWithin}
 use Rattle.model.proofs.Choice.{or-none, and-both, is-false, any-none}
 use Rattle.model.proofs.Good.{AllBelow, below-first, below-rest, Good, Within}
-use Rattle.model.proofs.Rows.{Whole, args-length, rowsOf-length, rowsOf-at, rowsOf-pack, pack-whole, rowIs-true}
+use Rattle.model.proofs.Rows.{args-length, rowsOf-length, rowsOf-at, rowsOf-pack, pack-whole, rowIs-true}
 use Rattle.model.proofs.Checked.{NoGround, passes, passed, checked-good, checked-within, checked-packed, InRange, GoodRow}
 
 -- ---- the tests do not hold

@@ -11,7 +11,7 @@ use lib.Seq.{getD-at, take-add, take-all, drop-cons, length-take-le, getD-append
 use lib.Dec.{eqb, ltb}
 use borrow.Author.Tests.{ltb-true, ltb-false, lt-ltb, le-ltb, eqb-true, eq-eqb}
 use Rattle.model.specs.Choice.{if_then_else_}
-use Rattle.model.specs.Table.{Row, noRow, pack, countAt, argsAt, rowAt, rowStart, rowNumbered, howMany, howManyRows, firstRows, rowsOf, sameList, rowIs}
+use Rattle.model.specs.Table.{Row, noRow, pack, countAt, argsAt, rowAt, rowStart, rowNumbered, howMany, howManyRows, firstRows, rowsOf, sameList, rowIs, Whole}
 use Rattle.model.proofs.Choice.{First, nowhere, first, first-of, and-true, and-both}
 
 -- ---- where rows begin
@@ -130,10 +130,6 @@ pub pack-append : (rs ss : List Row) → pack (rs ++ ss) ≡ pack rs ++ pack ss
 unfolding pack
 pack-append [] ss = refl
 pack-append (r ∷ rs) ss = rw (pack-append rs ss, append-assoc (r .args) (pack rs) (pack ss))
-
--- a row that is whole: its entries are all in the list
-abbrev pub Whole : List ℕ → ℕ → Type 0
-Whole entries at′ = at′ + 3 + countAt entries at′ ≤ length entries
 
 pub args-length : (entries : List ℕ) (s : ℕ) → Whole entries s → length (argsAt entries s) ≡ countAt entries s
 args-length entries s w = length-take-le (countAt entries s) (drop (s + 3) entries) (simp length-drop (omega arith))

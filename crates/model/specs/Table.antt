@@ -1,5 +1,5 @@
 -- "The lent lists": tables, and rows packed in one list. Assumes nothing: these are definitions.
-use Prim.Native.Nat.{ℕ, zero, suc, _+_, _<_}
+use Prim.Native.Nat.{ℕ, zero, suc, _+_, _<_, _≤_}
 use mathlib.Core.Path.{_≡_}
 use mathlib.Core.Bool.{Bool, true, false, _&&_}
 use mathlib.Core.List.{List, [], _∷_, _++_}
@@ -35,6 +35,10 @@ argsAt entries at = take (countAt entries at) (drop (at + 3) entries)
 
 abbrev pub rowAt : List ℕ → ℕ → Row
 rowAt entries at = record { symbol = getD entries at 0; target = getD entries (at + 1) 0; args = argsAt entries at }
+
+-- a whole row begins at the entry: its head entries and its arguments are within the list
+abbrev pub Whole : List ℕ → ℕ → Type 0
+Whole entries at = at + 3 + countAt entries at ≤ length entries
 
 -- where a row begins: the first at the front, each other one after the row before it
 unfoldable pub rowStart : List ℕ → ℕ → ℕ

@@ -37,12 +37,12 @@ unfoldable pub numberOf : Table → (ℕ → ℕ) → Tree → ℕ
 numberOf T c t = valueOf T c t + sum (take (entryOf (T .accepting) (stateOf T t)) (map c (T .accepting)))
 
 -- what is found by the sums: which of the weights holds h, and what is left of h there
-pub record Found : Type 0 where
+pub record Picked : Type 0 where
   pub which : ℕ
   pub rest : ℕ
 
 -- "find the accepting state, then the row, by the sums"
-unfoldable pub findBy : List ℕ → ℕ → Found
+unfoldable pub findBy : List ℕ → ℕ → Picked
 findBy [] h = record { which = 0; rest = h }
 findBy (w ∷ ws) h =
     let later = findBy ws (h - w) in

@@ -7,21 +7,19 @@ use native.Mathlib.Omega.{arith}
 use native.Mathlib.Numerals.{add-one}
 use lib.ListN.{length, getD, set, take, drop, drop-of-length-le, length-set}
 use lib.Seq.{drop-cons, getD-set-same, getD-set-other}
-use lib.Dec.{ltb, leb}
-use borrow.Author.Tests.{ltb-false, leb-false}
+use lib.Dec.{ltb}
 use borrow.Author.Count.{below-more}
 use Rattle.model.specs.declared.Kind.{Kind}
 use Rattle.model.specs.declared.Kind.the-variants.{CutRow, TooManyRowsOrArguments, NotInRange, ArgumentNotBelowTarget}
 use Rattle.model.specs.Answers.{kindNumber}
 use Rattle.model.specs.Choice.{if_then_else_}
-use Rattle.model.specs.Table.{rowAt, rowStart, countAt, argsAt}
+use Rattle.model.specs.Table.{rowAt, rowStart, countAt, argsAt, Whole}
 use Rattle.model.specs.Check.{allBelow, cut, tooMany, outOfRange, notBelow}
-use Rattle.model.proofs.Choice.{or-false}
-use Rattle.model.proofs.Checked.{not-cut}
+use Rattle.model.proofs.Checked.{not-cut, not-tooMany}
 use Rattle.rows.specs.declared.RowStep.{RowStep}
 use Rattle.rows.specs.declared.RowStep.the-variants.{Next, Faulty}
 use Rattle.rows.specs.declared.Walked.the-variants.{Passed, Stopped}
-use Rattle.rows.specs.Laid.{Laid, Whole}
+use Rattle.rows.specs.Laid.{Laid}
 use Rattle.rows.specs.Walk.{rowStep, stepGround, formGround, Walk}
 
 -- the test on the arguments that are left
@@ -39,6 +37,23 @@ part-is rows at a n e f =
     let g : at + 3 + n - (at + 3) ≡ countAt rows at = omega (arith, f) in
     rw (g, e)
 
+-- the first rows are laid where all are
+pub laid-below : {rows offsets : List ℕ} {m : ℕ} (n : ℕ) → n ≤ m → Laid rows offsets m → Laid rows offsets n
+laid-below n le l = record {
+  many = omega (arith, l .many);
+  long = l .long;
+  starts = λ r lt. l .starts r (omega arith);
+  whole = λ r lt. l .whole r (omega arith);
+}
+
+-- where the offset of row r says, row r begins, and it is whole
+module _ {rows offsets : List ℕ} {n : ℕ} (l : Laid rows offsets n) (r at : ℕ) (lt : r < n) (e : at ≡ getD offsets r 0) where
+  pub begins : at ≡ rowStart rows r
+  begins = e ∙ l .starts r lt
+
+  pub whole-at : Whole rows at
+  whole-at = rw begins (l .whole r lt)
+
 -- what holds of a row that is passed
 pub record Stepped (rows : List ℕ) (i at next : ℕ) : Type 0 where
   pub on : next ≡ at + 3 + countAt rows at
@@ -46,9 +61,9 @@ pub record Stepped (rows : List ℕ) (i at next : ℕ) : Type 0 where
   pub early : i < 1024
   pub few : countAt rows at ≤ 16
 
-pub stepped : (states : ℕ) (rows : List ℕ) (i at next : ℕ) → at < length rows → rowStep states rows i at ≡ Next next → Stepped rows i at next
-unfolding rowStep tooMany
-stepped states rows i at next lt e =
+pub stepped : (states : ℕ) (rows : List ℕ) (i at next : ℕ) → rowStep states rows i at ≡ Next next → Stepped rows i at next
+unfolding rowStep
+stepped states rows i at next e =
     go (cut rows at) refl (tooMany i (countAt rows at)) refl (outOfRange states (rowAt rows at)) (notBelow (rowAt rows at)) e
   where
     go : (a : Bool) → cut rows at ≡ a → (b : Bool) → tooMany i (countAt rows at) ≡ b → (d f : Bool)
@@ -59,12 +74,12 @@ stepped states rows i at next lt e =
     go false p false q true f h = let z : _≡_ {A = ℕ} 0 1 = cc in absurd (omega arith)
     go false p false q false true h = let z : _≡_ {A = ℕ} 0 1 = cc in absurd (omega arith)
     go false p false q false false h =
-        let t = or-false (leb 1024 i) (ltb 16 (countAt rows at)) q in
+        let t = not-tooMany i (countAt rows at) q in
         record {
           on = cc;
           whole = not-cut rows at p;
-          early = leb-false 1024 i (t .0);
-          few = ltb-false 16 (countAt rows at) (t .1);
+          early = t .0;
+          few = t .1;
         }
 
 -- n rows have been passed, and the next begins at `at`
@@ -95,7 +110,7 @@ module _ {states : ℕ} {rows offsets : List ℕ} {at n : ℕ} (w : Walking stat
 
   pub walk-goes : (next : ℕ) → rowStep states rows n at ≡ Next next → Walking states rows (set offsets n at) next (n + 1)
   walk-goes next e =
-      let s = stepped states rows n at next lt e in
+      let s = stepped states rows n at next e in
       record {
         here = rw (s .on, start-next rows n, ← (w .here)) refl;
         near = omega (arith, w .near, s .on, s .few);

@@ -1,16 +1,12 @@
 -- Where the rows of a packed list begin, as the code holds it. Assumes nothing: these are definitions.
-use Prim.Native.Nat.{ℕ, zero, suc, _+_, _<_, _≤_}
+use Prim.Native.Nat.{ℕ, zero, suc, _<_, _≤_}
 use mathlib.Core.Path.{_≡_}
 use mathlib.Core.Bool.{Bool, true, false}
 use mathlib.Core.List.{List}
 use lib.ListN.{length, getD}
-use Rattle.model.specs.Table.{rowStart, countAt}
+use Rattle.model.specs.Table.{rowStart, Whole}
 use Rattle.rows.specs.declared.Found.{Found}
 use Rattle.rows.specs.declared.Found.the-variants.{At, Nothing}
-
--- a whole row begins at the entry
-abbrev pub Whole : List ℕ → ℕ → Type 0
-Whole rows at = at + 3 + countAt rows at ≤ length rows
 
 -- the first n rows are whole and begin at their offsets
 pub record Laid (rows offsets : List ℕ) (n : ℕ) : Type 0 where

@@ -3,9 +3,8 @@ use model::Kind;
 ghost use mathlib.Core.Path.{_≡_};
 ghost use Prim.Native.Nat.{_+_, _<_};
 ghost use lib.ListN.{length};
-ghost use Rattle.model.specs.Table.{rowAt};
+ghost use Rattle.model.specs.Table.{argsAt, rowAt, Whole};
 ghost use Rattle.model.specs.Check.{allBelow, cut, tooMany, outOfRange, notBelow};
-ghost use Rattle.rows.specs.Laid.{Whole};
 ghost use Rattle.rows.specs.Walk.{rowStep, passed, Walk};
 
 // The first number with a property, or nothing.
@@ -36,6 +35,16 @@ pub fn wider(x: u16) -> u64
     ensures { λ r. ⌜ r ≡ x ⌝ }
 {
     x as u64
+}
+
+// The arguments of the whole row that begins at `at`, as a part of the rows.
+pub fn args_at(rows: &[u16], at: usize) -> &[u16]
+    requires { ⌜ Whole (now rows) at ⌝ }
+    ensures { λ r. ⌜ now r ≡ argsAt (now (rows .entry)) at ⌝ }
+{
+    let from = at + 3;
+    let end = from + wide(rows[at + 2]);
+    &rows[from..end]
 }
 
 // Whether every argument is below n.
@@ -112,16 +121,14 @@ fn step_row(states: u64, rows: &[u16], i: usize, at: usize) -> RowStep
     if is_too_many(i, n) {
         return RowStep::Faulty(Kind::TooManyRowsOrArguments);
     }
-    let from = at + 3;
-    let end = from + n;
-    let args = &rows[from..end];
+    let args = args_at(rows, at);
     if is_out_of_range(states, rows, at, args) {
         return RowStep::Faulty(Kind::NotInRange);
     }
     if is_not_below(rows, at, args) {
         return RowStep::Faulty(Kind::ArgumentNotBelowTarget);
     }
-    RowStep::Next(end)
+    RowStep::Next(at + 3 + n)
 }
 
 // How many rows were passed.

@@ -4,11 +4,12 @@ use mathlib.Core.Path.{_≡_, refl, sym, ap, _∙_}
 use mathlib.Core.List.{List, map}
 use native.Mathlib.Omega.{arith}
 use lib.ListN.{length, getD}
+use lib.Dec.{ltb}
 use borrow.Author.Tests.{lt-ltb, le-ltb}
 use Rattle.model.specs.declared.Kind.{Kind}
 use Rattle.model.specs.declared.Kind.the-variants.{TotalAboveLimit}
 use Rattle.model.specs.Answers.{Outcome, result, refused, kindNumber}
-use Rattle.model.specs.Choice.{firstFaulty}
+use Rattle.model.specs.Choice.{if_then_else_, firstFaulty}
 use Rattle.model.specs.Table.{rowStart, howManyRows, tableOf}
 use Rattle.model.specs.Count.{sum, count, longest, total}
 use Rattle.model.specs.Check.{rowGround, acceptingGround, stateGround, checkWithin, checkOutcome, countLimit}
@@ -22,7 +23,7 @@ use Rattle.counts.specs.Chain.{InOrder, Chained}
 use Rattle.counts.specs.States.{ceiling, held, Within, rowTable, Known}
 use Rattle.table.specs.declared.Checked.{Checked}
 use Rattle.table.specs.declared.Checked.the-variants.{Sound}
-use Rattle.table.specs.Checked.{AllFine, FirstAt, told, refusesAt, statesOutcome, acceptingOutcome, StatesAnswer, Prepared, CheckAnswer}
+use Rattle.table.specs.Checked.{AllFine, FirstAt, told, refusesAt, StatesReady, StatesAnswer, Prepared, CheckAnswer}
 use Rattle.model.proofs.Numbers.{kind-positive}
 
 -- rows without fault are in order
@@ -58,11 +59,67 @@ total-same states rows accepting cs e = ap sum (map-agree (held cs) (count (rowT
 not-sound : {A : Type 0} (k : Kind) (p t m : ℕ) (r : Checked) → r ≡ refusesAt k p → r ≡ Sound t m → A
 not-sound k p t m r e h = let z : _≡_ {A = ℕ} 0 1 = cc in absurd (omega arith)
 
+-- the check from the states on, and from the accepting list on
+unfoldable fromStates : (states : ℕ) (rows accepting : List ℕ) → Outcome
+fromStates states rows accepting =
+    firstFaulty states (stateGround countLimit (tableOf states rows accepting))
+    (if ltb countLimit (total (tableOf states rows accepting)) then refused 11 0 else result (total (tableOf states rows accepting)))
+
+unfoldable fromEntries : (states : ℕ) (rows accepting : List ℕ) → Outcome
+fromEntries states rows accepting =
+    firstFaulty (length accepting) (acceptingGround states accepting)
+    (if ltb states (length accepting) then refused 8 0 else fromStates states rows accepting)
+
+-- the ordered choice, one ground after the other: 1
+module _ (states : ℕ) (rows accepting : List ℕ) where
+  pub too-many : 256 < states → refused 1 0 ≡ checkOutcome states rows accepting
+  unfolding checkOutcome checkWithin
+  too-many gt = rw (lt-ltb 256 states gt)
+
+  module _ (few : states ≤ 256) where
+    -- 2 to 6
+    pub row-refused : (i k : ℕ) → FirstAt (howManyRows rows) (rowGround states rows) i k → 0 < k → refused k i ≡ checkOutcome states rows accepting
+    unfolding checkOutcome checkWithin
+    row-refused i k f pos =
+        rw (le-ltb 256 states few) (ap (λ (v : ℕ). refused v i) (sym (f .here))
+        ∙ sym (first-fault (howManyRows rows) i (rowGround states rows) _ (f .inside) (f .before) (rw (f .here) pos)))
+
+    module _ (rows-fine : AllFine (howManyRows rows) (rowGround states rows)) where
+      from-entries : fromEntries states rows accepting ≡ checkOutcome states rows accepting
+      unfolding checkOutcome checkWithin fromEntries fromStates
+      from-entries = rw (le-ltb 256 states few) (sym (no-fault (howManyRows rows) (rowGround states rows) _ rows-fine))
+
+      -- 7
+      entry-is : (i : ℕ) → FirstAt (length accepting) (acceptingGround states accepting) i 7 → refused 7 i ≡ fromEntries states rows accepting
+      unfolding fromEntries
+      entry-is i f =
+          ap (λ (v : ℕ). refused v i) (sym (f .here))
+          ∙ sym (first-fault (length accepting) i (acceptingGround states accepting) _ (f .inside) (f .before) (rw (f .here) (omega arith)))
+
+      pub entry-refused : (i : ℕ) → FirstAt (length accepting) (acceptingGround states accepting) i 7 → refused 7 i ≡ checkOutcome states rows accepting
+      entry-refused i f = entry-is i f ∙ from-entries
+
+      module _ (entries-fine : AllFine (length accepting) (acceptingGround states accepting)) where
+        -- 8
+        list-is : states < length accepting → refused 8 0 ≡ fromEntries states rows accepting
+        unfolding fromEntries
+        list-is gt = rw (no-fault (length accepting) (acceptingGround states accepting) _ entries-fine, lt-ltb states (length accepting) gt)
+
+        pub list-refused : states < length accepting → refused 8 0 ≡ checkOutcome states rows accepting
+        list-refused gt = list-is gt ∙ from-entries
+
+        states-is : length accepting ≤ states → fromStates states rows accepting ≡ fromEntries states rows accepting
+        unfolding fromEntries
+        states-is le = rw (no-fault (length accepting) (acceptingGround states accepting) _ entries-fine, le-ltb states (length accepting) le)
+
+        from-states : length accepting ≤ states → fromStates states rows accepting ≡ checkOutcome states rows accepting
+        from-states le = states-is le ∙ from-entries
+
 -- a faulty state: 9 or 10
 fault-is : (states : ℕ) (rows accepting : List ℕ) (q : ℕ) (k : Kind)
     → (q < states) × ((a : ℕ) → a < q → stateGround countLimit (rowTable states rows) a ≡ 0) × (stateGround countLimit (rowTable states rows) q ≡ kindNumber k)
-    → refused (kindNumber k) q ≡ statesOutcome states rows accepting
-unfolding statesOutcome
+    → refused (kindNumber k) q ≡ fromStates states rows accepting
+unfolding fromStates
 fault-is states rows accepting q k f =
     let g : stateGround countLimit (tableOf states rows accepting) q ≡ kindNumber k = ground-same states rows accepting q ∙ f .2 in
     ap (λ (v : ℕ). refused v q) (sym g)
@@ -78,90 +135,58 @@ module _ (states : ℕ) (rows accepting cs ls sums : List ℕ) (fine : AllFine (
   states-clear o = no-fault states (stateGround countLimit (tableOf states rows accepting)) o (λ a l. ground-same states rows accepting a ∙ x .fine a l)
 
   -- above the limit: 11
-  over-is : countLimit < t → refused 11 0 ≡ statesOutcome states rows accepting
-  unfolding statesOutcome
+  over-is : countLimit < t → refused 11 0 ≡ fromStates states rows accepting
+  unfolding fromStates
   over-is gt = rw (states-clear _, lt-ltb countLimit (total (tableOf states rows accepting)) (omega (arith, total-kept)))
 
-  pass-is : t ≤ countLimit → result t ≡ statesOutcome states rows accepting
-  unfolding statesOutcome
+  pass-is : t ≤ countLimit → result t ≡ fromStates states rows accepting
+  unfolding fromStates
   pass-is le =
       let y : t ≡ total (tableOf states rows accepting) = omega (arith, total-kept) in
       rw (states-clear _, le-ltb countLimit (total (tableOf states rows accepting)) (omega (arith, total-kept)), y)
 
--- the answer from the states on, refused or with the total
-module _ (states : ℕ) (rows accepting : List ℕ) (n : ℕ) (first after cs ls sums : List ℕ) where
-  states-refused : (k : Kind) (p : ℕ) (r : Checked) → r ≡ refusesAt k p → refused (kindNumber k) p ≡ statesOutcome states rows accepting
+-- the answer where none of the grounds 1 to 8 holds
+module _ {states : ℕ} {rows accepting : List ℕ} {n : ℕ} {offsets first₀ after₀ cs₀ ls₀ sums₀ : List ℕ} (s : StatesReady states rows accepting n offsets first₀ after₀ cs₀ ls₀ sums₀) where
+  left : fromStates states rows accepting ≡ checkOutcome states rows accepting
+  left = from-states states rows accepting (s .few) (rw (s .all) at (s .rows-fine)) (s .entries-fine) (s .listed-few)
+
+  states-refused : (first after cs ls sums : List ℕ) (k : Kind) (p : ℕ) (r : Checked) → r ≡ refusesAt k p → refused (kindNumber k) p ≡ fromStates states rows accepting
       → StatesAnswer states rows accepting n first after cs ls sums r
-  states-refused k p r e h = record {
-    answer = ap told e ∙ h;
+  states-refused first after cs ls sums k p r e h = record {
+    answer = ap told e ∙ h ∙ left;
     rows-are = λ t m z. not-sound k p t m r e z;
     chained = λ t m z. not-sound k p t m r e z;
     known = λ t m z. not-sound k p t m r e z;
   }
 
-  pub states-fault : (q : ℕ) (k : Kind) (r : Checked) → r ≡ refusesAt k q
+  pub states-fault : {first after cs ls sums : List ℕ} (q : ℕ) (k : Kind) (r : Checked) → r ≡ refusesAt k q
       → (q < states) × ((a : ℕ) → a < q → stateGround countLimit (rowTable states rows) a ≡ 0) × (stateGround countLimit (rowTable states rows) q ≡ kindNumber k)
       → StatesAnswer states rows accepting n first after cs ls sums r
-  states-fault q k r e f = states-refused k q r e (fault-is states rows accepting q k f)
+  states-fault q k r e f = states-refused _ _ _ _ _ k q r e (fault-is states rows accepting q k f)
 
-  module _ (fine : AllFine (length accepting) (acceptingGround states accepting)) (x : Known states rows states cs ls sums) (t : ℕ) (e : t ≡ min (sum (map (held cs) accepting)) ceiling) where
-    pub states-over : (r : Checked) → countLimit < t → r ≡ refusesAt TotalAboveLimit 0 → StatesAnswer states rows accepting n first after cs ls sums r
-    states-over r gt h = states-refused TotalAboveLimit 0 r h (over-is states rows accepting cs ls sums fine x t e gt)
+  module _ {cs ls sums : List ℕ} (x : Known states rows states cs ls sums) (t : ℕ) (e : t ≡ min (sum (map (held cs) accepting)) ceiling) where
+    pub states-over : {first after : List ℕ} (r : Checked) → countLimit < t → r ≡ refusesAt TotalAboveLimit 0 → StatesAnswer states rows accepting n first after cs ls sums r
+    states-over r gt h = states-refused _ _ _ _ _ TotalAboveLimit 0 r h (over-is states rows accepting cs ls sums (s .entries-fine) x t e gt)
 
-    pub states-pass : t ≤ countLimit → Chained rows 0 n first after → StatesAnswer states rows accepting n first after cs ls sums (Sound t n)
+    pub states-pass : {first after : List ℕ} → t ≤ countLimit → Chained rows 0 n first after → StatesAnswer states rows accepting n first after cs ls sums (Sound t n)
     states-pass le c = record {
-      answer = pass-is states rows accepting cs ls sums fine x t e le;
+      answer = pass-is states rows accepting cs ls sums (s .entries-fine) x t e le ∙ left;
       rows-are = λ t′ m z. let y : n ≡ m = cc in sym y;
       chained = λ t′ m z. c;
       known = λ t′ m z. x;
     }
 
--- the ordered choice, one ground after the other
-module _ (states : ℕ) (rows accepting : List ℕ) where
-  pub too-many : 256 < states → refused 1 0 ≡ checkOutcome states rows accepting
-  unfolding checkOutcome checkWithin
-  too-many gt = rw (lt-ltb 256 states gt)
+-- the answer of the whole check
+module _ {states : ℕ} {rows accepting offsets heads next first after counts longest′ sums : List ℕ} where
+  pub refused-answer : (k : Kind) (p : ℕ) (r : Checked) → r ≡ refusesAt k p → refused (kindNumber k) p ≡ checkOutcome states rows accepting
+      → CheckAnswer states rows accepting offsets heads next first after counts longest′ sums r
+  refused-answer k p r e h = record { answer = ap told e ∙ h; prepared = λ t m z. not-sound k p t m r e z }
 
-  module _ (few : states ≤ 256) where
-    pub row-refused : (i k : ℕ) → FirstAt (howManyRows rows) (rowGround states rows) i k → 0 < k → refused k i ≡ checkOutcome states rows accepting
-    unfolding checkOutcome checkWithin
-    row-refused i k f pos =
-        rw (le-ltb 256 states few) (ap (λ (v : ℕ). refused v i) (sym (f .here))
-        ∙ sym (first-fault (howManyRows rows) i (rowGround states rows) _ (f .inside) (f .before) (rw (f .here) pos)))
-
-    pub rows-passed : AllFine (howManyRows rows) (rowGround states rows) → acceptingOutcome states rows accepting ≡ checkOutcome states rows accepting
-    unfolding checkOutcome checkWithin acceptingOutcome statesOutcome
-    rows-passed fine = rw (le-ltb 256 states few) (sym (no-fault (howManyRows rows) (rowGround states rows) _ fine))
-
-  pub entry-refused : (i : ℕ) → FirstAt (length accepting) (acceptingGround states accepting) i 7 → refused 7 i ≡ acceptingOutcome states rows accepting
-  unfolding acceptingOutcome
-  entry-refused i f =
-      ap (λ (v : ℕ). refused v i) (sym (f .here))
-      ∙ sym (first-fault (length accepting) i (acceptingGround states accepting) _ (f .inside) (f .before) (rw (f .here) (omega arith)))
-
-  module _ (fine : AllFine (length accepting) (acceptingGround states accepting)) where
-    pub list-refused : states < length accepting → refused 8 0 ≡ acceptingOutcome states rows accepting
-    unfolding acceptingOutcome
-    list-refused gt = rw (no-fault (length accepting) (acceptingGround states accepting) _ fine, lt-ltb states (length accepting) gt)
-
-    pub entries-passed : length accepting ≤ states → statesOutcome states rows accepting ≡ acceptingOutcome states rows accepting
-    unfolding acceptingOutcome
-    entries-passed le = rw (no-fault (length accepting) (acceptingGround states accepting) _ fine, le-ltb states (length accepting) le)
-
-  module _ {offsets heads next first after counts longest′ sums : List ℕ} where
-    pub refused-answer : (k : Kind) (p : ℕ) (r : Checked) → r ≡ refusesAt k p → refused (kindNumber k) p ≡ checkOutcome states rows accepting
-        → CheckAnswer states rows accepting offsets heads next first after counts longest′ sums r
-    refused-answer k p r e h = record { answer = ap told e ∙ h; prepared = λ t m z. not-sound k p t m r e z }
-
-    pub states-answer : (n : ℕ) (r : Checked) → states ≤ 256 → n ≡ howManyRows rows → Laid rows offsets n → Index rows n heads next → AllFine n (rowGround states rows)
-        → AllFine (length accepting) (acceptingGround states accepting) → length accepting ≤ states
-        → StatesAnswer states rows accepting n first after counts longest′ sums r → CheckAnswer states rows accepting offsets heads next first after counts longest′ sums r
-    states-answer n r few all laid index fine entries le x = record {
-      answer = x .answer ∙ entries-passed entries le ∙ rows-passed few (rw all at fine);
-      prepared = λ t m z. ready t m z;
-    }
-      where
-        ready : (t m : ℕ) → r ≡ Sound t m → Prepared states rows offsets heads next first after counts longest′ sums m
-        ready t m z =
-            let y : m ≡ n = x .rows-are t m z in
-            rw y (record { all = all; laid = laid; index = index; chained = x .chained t m z; known = x .known t m z })
+  pub states-answer : (n : ℕ) (r : Checked) → n ≡ howManyRows rows → Laid rows offsets n → Index rows n heads next → StatesAnswer states rows accepting n first after counts longest′ sums r
+      → CheckAnswer states rows accepting offsets heads next first after counts longest′ sums r
+  states-answer n r all laid index x = record { answer = x .answer; prepared = λ t m z. ready t m z }
+    where
+      ready : (t m : ℕ) → r ≡ Sound t m → Prepared states rows offsets heads next first after counts longest′ sums m
+      ready t m z =
+          let y : m ≡ n = x .rows-are t m z in
+          rw y (record { all = all; laid = laid; index = index; chained = x .chained t m z; known = x .known t m z })

@@ -3,14 +3,11 @@ use Prim.Native.Nat.{ℕ, _<_, _≤_}
 use mathlib.Core.Path.{_≡_}
 use mathlib.Core.List.{List}
 use lib.ListN.{length}
-use lib.Dec.{ltb}
 use Rattle.model.specs.declared.Kind.{Kind}
 use Rattle.model.specs.declared.Answer.the-variants.{Refused}
-use Rattle.model.specs.Answers.{Outcome, result, refused, kindNumber, outcome}
-use Rattle.model.specs.Choice.{if_then_else_, firstFaulty}
-use Rattle.model.specs.Table.{howManyRows, acceptingStates, tableOf}
-use Rattle.model.specs.Count.{total}
-use Rattle.model.specs.Check.{rowGround, acceptingGround, stateGround, checkOutcome, countLimit}
+use Rattle.model.specs.Answers.{Outcome, result, kindNumber, outcome}
+use Rattle.model.specs.Table.{howManyRows}
+use Rattle.model.specs.Check.{rowGround, acceptingGround, checkOutcome}
 use Rattle.rows.specs.declared.Found.{Found}
 use Rattle.rows.specs.declared.Found.the-variants.{At, Nothing}
 use Rattle.rows.specs.declared.Walked.{Walked}
@@ -47,27 +44,17 @@ abbrev pub told : Checked → Outcome
 told (Sound t n) = result t
 told (Refuses r) = outcome (Refused r)
 
--- the check from the states on, and from the accepting list on
-unfoldable pub statesOutcome : (states : ℕ) (rows accepting : List ℕ) → Outcome
-statesOutcome states rows accepting =
-    firstFaulty states (stateGround countLimit (tableOf states rows accepting))
-    (if ltb countLimit (total (tableOf states rows accepting)) then refused 11 0 else result (total (tableOf states rows accepting)))
-
-unfoldable pub acceptingOutcome : (states : ℕ) (rows accepting : List ℕ) → Outcome
-acceptingOutcome states rows accepting =
-    firstFaulty (length (acceptingStates accepting)) (acceptingGround states (acceptingStates accepting))
-    (if ltb states (length (acceptingStates accepting)) then refused 8 0 else statesOutcome states rows accepting)
-
 abbrev pub refusesAt : Kind → ℕ → Checked
 refusesAt k place = Refuses (record { place = place; kind = k })
 
--- what checking the states starts from: rows and an accepting list without fault, and arrays not yet written
+-- what checking the states starts from: none of the grounds 1 to 8 holds, and the arrays are not yet written
 pub record StatesReady (states : ℕ) (rows accepting : List ℕ) (n : ℕ) (offsets first after counts longest sums : List ℕ) : Type 0 where
   pub all : n ≡ howManyRows rows
   pub laid : Laid rows offsets n
   pub few : states ≤ 256
   pub rows-fine : AllFine n (rowGround states rows)
   pub entries-fine : AllFine (length accepting) (acceptingGround states accepting)
+  pub listed-few : length accepting ≤ states
   pub unchained : Unchained first after
   pub counts-long : length counts ≡ 256
   pub longest-long : length longest ≡ 256
@@ -75,7 +62,7 @@ pub record StatesReady (states : ℕ) (rows accepting : List ℕ) (n : ℕ) (off
 
 -- what it answers, and what a table that passes leaves: chains by target, counts, and the sums of earlier rows
 pub record StatesAnswer (states : ℕ) (rows accepting : List ℕ) (n : ℕ) (first after counts longest sums : List ℕ) (r : Checked) : Type 0 where
-  pub answer : told r ≡ statesOutcome states rows accepting
+  pub answer : told r ≡ checkOutcome states rows accepting
   pub rows-are : (t m : ℕ) → r ≡ Sound t m → m ≡ n
   pub chained : (t m : ℕ) → r ≡ Sound t m → Chained rows 0 n first after
   pub known : (t m : ℕ) → r ≡ Sound t m → Known states rows states counts longest sums

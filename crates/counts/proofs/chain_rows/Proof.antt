@@ -3,8 +3,9 @@ use Prim.Native.Nat.{ℕ, _<_, _≤_, _+_, _-_}
 use mathlib.Core.Path.{_≡_, ap, _∙_}
 use native.Mathlib.Omega.{arith}
 use borrow.Author.Needs.{needs}
-use lib.ListN.{length, getD}
-use Rattle.model.specs.Table.{rowStart}
+use lib.ListN.{getD}
+use Rattle.model.specs.Table.{rowStart, Whole}
+use Rattle.rows.proofs.Laws.{begins, whole-at}
 use Rattle.counts.specs.Chain.{Chained, target}
 use Rattle.counts.proofs.Chain.{unchained, chain-more}
 use Rattle.counts.proofs.chain_rows.Statement.{statement}
@@ -18,10 +19,10 @@ abbrev μ-loop : tie.MeasureT-loop
 
 -- where the row at hand begins, that it is whole, and its target
 start : (c : tie.After-wide Inv-loop μ-loop) → c .wide .result ≡ rowStart (c .before .before .before .before .before .args .rows .now) (c .before .before .before .loop .m - 1)
-start c = c .wide .ensures ∙ c .before .before .before .before .before .pre .0 .starts (c .before .before .before .loop .m - 1) (omega arith)
+start c = begins (c .before .before .before .before .before .pre .0) (c .before .before .before .loop .m - 1) _ (omega arith) (c .wide .ensures)
 
-whole : (c : tie.After-wide Inv-loop μ-loop) → rowStart (c .before .before .before .before .before .args .rows .now) (c .before .before .before .loop .m - 1) + 3 ≤ length (c .before .before .before .before .before .args .rows .now)
-whole c = omega (arith, c .before .before .before .before .before .pre .0 .whole (c .before .before .before .loop .m - 1) (omega arith))
+whole : (c : tie.After-wide Inv-loop μ-loop) → Whole (c .before .before .before .before .before .args .rows .now) (c .wide .result)
+whole c = whole-at (c .before .before .before .before .before .pre .0) (c .before .before .before .loop .m - 1) _ (omega arith) (c .wide .ensures)
 
 is : (c : tie.After-wide2 Inv-loop μ-loop) → c .wide2 .result ≡ target (c .before .before .before .before .before .before .before .args .rows .now) (c .before .before .before .before .before .loop .m - 1)
 is c = c .wide2 .ensures ∙ ap (λ (k : ℕ). getD (c .before .before .before .before .before .before .before .args .rows .now) (k + 1) 0) (start (c .before .before))
@@ -39,13 +40,13 @@ element-copy-out-wide : tie.Need-element-copy-out-wide Inv-loop μ-loop
 element-copy-out-wide c = omega (arith, c .before .before .before .pre .0 .many)
 
 add-wide : tie.Need-add-wide Inv-loop μ-loop
-add-wide c = omega (arith, start c, whole c)
+add-wide c = omega (arith, whole c)
 
 mul-wide-2 : tie.Need-mul-wide-2 Inv-loop μ-loop
-mul-wide-2 c = omega (arith, start c, whole c)
+mul-wide-2 c = omega (arith, whole c)
 
 shared-slice-read-wide : tie.Need-shared-slice-read-wide Inv-loop μ-loop
-shared-slice-read-wide c = omega (arith, start (c .before), whole (c .before))
+shared-slice-read-wide c = omega (arith, whole (c .before))
 
 mul-after : tie.Need-mul-after Inv-loop μ-loop
 mul-after c = omega (arith, state c)

@@ -1,5 +1,5 @@
-use native.Mathlib.Nat.{min-le-right}
 -- The product of the arguments passed, kept to the limit, and of those that are left is the product of all, kept to the limit.
+use native.Mathlib.Nat.{min-le-right}
 use Prim.Native.Nat.{_≤_, _*_, _-_, min, _<_}
 use mathlib.Core.Path.{_≡_, ap}
 use mathlib.Core.List.{map}

@@ -1,7 +1,8 @@
 use Prim.Native.Nat.{_-_}
 use native.Mathlib.Omega.{arith}
 use borrow.Author.Needs.{needs}
-use Rattle.index.proofs.Laws.{whole-at, row-told, Walk, walk-begins, walk-goes, walk-finds, walk-ends}
+use Rattle.rows.proofs.Laws.{whole-at}
+use Rattle.index.proofs.Laws.{row-told, Walk, walk-begins, walk-goes, walk-finds, walk-ends}
 use Rattle.index.proofs.find_in.Statement.{statement}
 use Rattle.index.proofs.find_in.Tie as tie
 

@@ -15,7 +15,7 @@ abbrev μ-loop : tie.MeasureT-loop
 
 -- what holds of the row that is passed
 step : (c : tie.After-known-told Inv-loop μ-loop) → Stepped (c .before .before .before .before .before .before .before .args .rows .now) (c .before .before .before .before .before .loop .n) (c .before .before .before .before .before .loop .at) (c .before .end .given .0 .0)
-step c = stepped _ _ _ _ _ (c .before .before .before .before .loop-test .taken) (sym (c .before .before .before .step-row .ensures) ∙ c .before .end .given .1)
+step c = stepped _ _ _ _ _ (sym (c .before .before .before .step-row .ensures) ∙ c .before .end .given .1)
 
 loop-holds : tie.Need-loop-holds Inv-loop μ-loop
 loop-holds c = walk-begins _ _ _ (c .before .pre)

@@ -1,18 +1,18 @@
-use mathlib.Core.Path.{_∙_}
+-- One ground after the other, in the order of document 01.
 use Rattle.model.proofs.Numbers.{kind-positive}
-use Rattle.table.proofs.Outcomes.{too-many, row-refused, rows-passed, entry-refused, list-refused, refused-answer, states-answer}
+use Rattle.table.proofs.Outcomes.{too-many, row-refused, entry-refused, list-refused, refused-answer, states-answer}
 use borrow.Author.Needs.{needs}
 use Rattle.table.proofs.check_into.Statement.{statement}
 use Rattle.table.proofs.check_into.Tie as tie
 
 returns : tie.Need-returns
-returns c = refused-answer _ _ _ _ _ _ (c .refuses .ensures) (too-many _ _ _ (c .before .if1 .taken))
+returns c = refused-answer _ _ _ (c .refuses .ensures) (too-many _ _ _ (c .before .if1 .taken))
 
 returns-2 : tie.Need-returns-2
 returns-2 c =
     let w = c .before .before .before .before .before .before .before .before .check-rows .ensures .passed _ (c .before .before .before .before .before .before .n .given .1) in
-    refused-answer _ _ _ _ _ _ (c .refuses4 .ensures)
-    (list-refused _ _ _ (c .before .before .before .before .faulty-entry .ensures .none (c .before .before .enum-told .given .1)) (c .before .if2 .taken) ∙ rows-passed _ _ _ (c .before .before .before .before .before .before .before .before .before .before .before .before .if1 .left) (rw (w .0) at (w .3)))
+    refused-answer _ _ _ (c .refuses4 .ensures)
+    (list-refused _ _ _ (c .before .before .before .before .before .before .before .before .before .before .before .before .if1 .left) (rw (w .0) at (w .3)) (c .before .before .before .before .faulty-entry .ensures .none (c .before .before .enum-told .given .1)) (c .before .if2 .taken))
 
 check-states-requires : tie.Need-check-states-requires
 check-states-requires c κs =
@@ -24,6 +24,7 @@ check-states-requires c κs =
       few = c .before .before .before .before .before .before .before .before .before .before .before .before .before .before .before .before .before .if1 .left;
       rows-fine = w .3;
       entries-fine = c .before .before .before .before .before .before .before .before .before .faulty-entry .ensures .none (c .before .before .before .before .before .before .before .enum-told .given .1);
+      listed-few = c .before .before .before .before .before .before .if2 .left;
       unchained = s .pre .unchained;
       counts-long = s .pre .counts-long;
       longest-long = s .pre .longest-long;
@@ -32,19 +33,18 @@ check-states-requires c κs =
 
 returns-3 : tie.Need-returns-3
 returns-3 c =
-    refused-answer _ _ _ _ _ _ (c .refuses2 .ensures)
+    refused-answer _ _ _ (c .refuses2 .ensures)
     (row-refused _ _ _ (c .before .before .before .before .before .before .before .before .if1 .left) _ _ (c .before .before .before .before .check-rows .ensures .stopped _ _ (c .before .before .r .given .1)) (kind-positive (c .before .before .r .given .0 .1 .0)))
 
 returns-4 : tie.Need-returns-4
 returns-4 c =
     let w = c .before .before .before .before .before .before .before .before .check-rows .ensures .passed _ (c .before .before .before .before .before .before .n .given .1) in
-    refused-answer _ _ _ _ _ _ (c .refuses3 .ensures)
-    (entry-refused _ _ _ _ (c .before .before .before .before .faulty-entry .ensures .some _ (c .before .before .i .given .1)) ∙ rows-passed _ _ _ (c .before .before .before .before .before .before .before .before .before .before .before .before .if1 .left) (rw (w .0) at (w .3)))
+    refused-answer _ _ _ (c .refuses3 .ensures) (entry-refused _ _ _ (c .before .before .before .before .before .before .before .before .before .before .before .before .if1 .left) (rw (w .0) at (w .3)) _ (c .before .before .before .before .faulty-entry .ensures .some _ (c .before .before .i .given .1)))
 
 returns-5 : tie.Need-returns-5
 returns-5 c =
     let w = c .before .before .before .before .before .before .before .before .before .before .before .before .before .before .check-rows .ensures .passed _ (c .before .before .before .before .before .before .before .before .before .before .before .before .n .given .1) in
-    states-answer _ _ _ _ _ (c .before .before .before .before .before .before .before .before .before .before .before .before .before .before .before .before .before .before .if1 .left) (w .0) (w .1) (w .2) (w .3) (c .before .before .before .before .before .before .before .before .before .before .faulty-entry .ensures .none (c .before .before .before .before .before .before .before .before .enum-told .given .1)) (c .before .before .before .before .before .before .before .if2 .left) (c .check-states .ensures)
+    states-answer _ _ (w .0) (w .1) (w .2) (c .check-states .ensures)
 
 pub check-into-spec : {M : Type 1} → statement M
 check-into-spec =

@@ -1,3 +1,4 @@
+-- The rows are chained and the states counted; the first faulty state decides, or else the total.
 use native.Mathlib.Omega.{arith}
 use Rattle.table.proofs.Outcomes.{in-order, entries-within, states-fault, states-over, states-pass}
 use Rattle.counts.specs.Chain.{InOrder}
@@ -30,13 +31,13 @@ sum-of-requires : tie.Need-sum-of-requires
 sum-of-requires c κs = entries-within (c .before .before .before .before .before .before .before .before .before .before .before .before .before .before .pre .few) (c .before .before .before .before .before .before .before .before .before .before .before .before .before .before .pre .entries-fine) (c .before .before .before .count-states .ensures .all (c .before .enum-told .given .1))
 
 returns : tie.Need-returns
-returns c = states-over _ _ _ _ _ _ _ _ _ (c .before .before .before .before .before .before .before .before .before .before .before .before .before .before .before .before .before .pre .entries-fine) (c .before .before .before .before .before .before .count-states .ensures .all (c .before .before .before .before .enum-told .given .1)) _ (c .before .before .sum-of .ensures) _ (c .before .if1 .taken) (c .refuses2 .ensures)
+returns c = states-over (c .before .before .before .before .before .before .before .before .before .before .before .before .before .before .before .before .before .pre) (c .before .before .before .before .before .before .count-states .ensures .all (c .before .before .before .before .enum-told .given .1)) _ (c .before .before .sum-of .ensures) _ (c .before .if1 .taken) (c .refuses2 .ensures)
 
 returns-2 : tie.Need-returns-2
-returns-2 c = states-fault _ _ _ _ _ _ _ _ _ _ _ _ (c .refuses .ensures) (c .before .before .before .before .count-states .ensures .fault _ _ (c .before .before .q .given .1))
+returns-2 c = states-fault (c .before .before .before .before .before .before .before .before .before .before .before .before .before .before .before .pre) _ _ _ (c .refuses .ensures) (c .before .before .before .before .count-states .ensures .fault _ _ (c .before .before .q .given .1))
 
 returns-3 : tie.Need-returns-3
-returns-3 c = states-pass _ _ _ _ _ _ _ _ _ (c .before .before .before .before .before .before .before .before .before .before .before .before .before .before .before .before .pre .entries-fine) (c .before .before .before .before .before .count-states .ensures .all (c .before .before .before .enum-told .given .1)) _ (c .before .sum-of .ensures) (c .if1 .left) (c .before .before .before .before .before .before .before .before .before .before .before .chain-rows .ensures)
+returns-3 c = states-pass (c .before .before .before .before .before .before .before .before .before .before .before .before .before .before .before .before .pre) (c .before .before .before .before .before .count-states .ensures .all (c .before .before .before .enum-told .given .1)) _ (c .before .sum-of .ensures) (c .if1 .left) (c .before .before .before .before .before .before .before .before .before .before .before .chain-rows .ensures)
 
 pub check-states-spec : {M : Type 1} → statement M
 check-states-spec =
