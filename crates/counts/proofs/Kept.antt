@@ -5,13 +5,12 @@ use mathlib.Core.Bool.{Bool, true, false}
 use mathlib.Core.List.{List, [], _∷_, map}
 use native.Mathlib.Nat.{mul-zero, mul-one, mul-assoc, mul-suc, one-mul, le-mul-of-pos-right, mul-le-mul, min-eq-left, min-eq-right, le-of-lt}
 use native.Mathlib.Omega.{arith}
-use native.Mathlib.Numerals.{add-one}
 use lib.ListN.{length, getD, drop, drop-of-length-le}
-use lib.Seq.{drop-cons}
 use lib.Dec.{leb}
 use borrow.Author.Tests.{leb-true, leb-false}
 use Rattle.model.specs.Count.{sum, product}
 use Rattle.model.specs.Check.{countLimit}
+use Rattle.model.proofs.Lists.{drop-next}
 use Rattle.counts.specs.States.{ceiling, held, Within}
 
 -- a product kept to a limit may be kept to it on the way: 0 stays 0, and what is above stays above
@@ -35,11 +34,11 @@ module _ (f : ℕ → ℕ) (args : List ℕ) (i : ℕ) (lt : i < length args) wh
   -- one argument more
   product-next : product (map f (drop i args)) ≡ f (getD args i 0) * product (map f (drop (i + 1) args))
   unfolding product
-  product-next = rw (add-one, drop-cons args i 0)
+  product-next = rw (drop-next args i lt)
 
   sum-next : sum (map f (drop i args)) ≡ f (getD args i 0) + sum (map f (drop (i + 1) args))
   unfolding sum
-  sum-next = rw (add-one, drop-cons args i 0)
+  sum-next = rw (drop-next args i lt)
 
   pub product-goes : (l w w′ x all : ℕ) → x ≡ f (getD args i 0) → w′ ≡ min (w * x) l → min (w * product (map f (drop i args))) l ≡ all
       → min (w′ * product (map f (drop (i + 1) args))) l ≡ all

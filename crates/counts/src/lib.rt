@@ -54,7 +54,7 @@ fn row_count(args: &[u16], counts: &[u64; 256]) -> u64
     let mut w: u64 = 1;
     let mut i: usize = 0;
     while i < args.len() {
-        w = times(w, counts[rows::wide(args[i])]);
+        w = times(w, counts[chains::wide(args[i])]);
         i += 1;
     }
     w
@@ -68,7 +68,7 @@ pub fn sum_of(list: &[u16], values: &[u64; 256]) -> u64
     let mut total: u64 = 0;
     let mut i: usize = 0;
     while i < list.len() {
-        total = plus(total, values[rows::wide(list[i])]);
+        total = plus(total, values[chains::wide(list[i])]);
         i += 1;
     }
     total
@@ -105,7 +105,7 @@ pub fn chain_rows(
     let mut m = n;
     while 0 < m {
         m -= 1;
-        let t = rows::wide(rows[rows::wide(offsets[m]) + 1]);
+        let t = chains::wide(rows[chains::wide(offsets[m]) + 1]);
         after[m] = first[t];
         first[t] = (m + 1) as u16;
     }
@@ -127,15 +127,15 @@ fn count_state(
 {
     let mut count: u64 = 0;
     let mut long: u64 = 0;
-    let mut p = rows::wide(first[q]);
+    let mut p = chains::wide(first[q]);
     while 0 < p {
         let r = p - 1;
-        let args = rows::args_at(rows, rows::wide(offsets[r]));
+        let args = rows::args_at(rows, chains::wide(offsets[r]));
         sums[r] = count;
         let w = row_count(args, counts);
         count = plus(count, w);
         long = longer_of(long, w, args, longest);
-        p = rows::wide(after[r]);
+        p = chains::wide(after[r]);
     }
     Counted {
         count: count,

@@ -1,13 +1,14 @@
 // An index of packed rows: the first row that repeats an earlier one, and the row with a symbol and arguments.
-use rows::Found;
+use chains::Found;
+use chains::wide;
+use chains::wider;
 use rows::args_at;
-use rows::wide;
-use rows::wider;
 ghost use mathlib.Core.Path.{_≡_};
 ghost use Prim.Native.Nat.{_<_};
 ghost use Rattle.model.specs.Table.{sameList, rowIs, rowAt, Whole};
+ghost use Rattle.chains.specs.Chains.{Clear};
 ghost use Rattle.rows.specs.Laid.{Laid};
-ghost use Rattle.index.specs.Index.{rowFound, hashOf, Index, Clear, Answered};
+ghost use Rattle.index.specs.Index.{rowFound, hashOf, Index, Answered};
 
 // Whether two argument lists are equal.
 fn same(a: &[u16], b: &[u16]) -> bool
@@ -112,7 +113,7 @@ pub fn first_duplicate(
     next: &mut [u16; 1024],
 ) -> Found
     requires { ⌜ Laid (now rows) (now offsets) m ⌝ }
-    requires { ⌜ Clear (now heads) (now next) ⌝ }
+    requires { ⌜ Clear 2048 1024 (now heads) (now next) ⌝ }
     ensures { λ r. ⌜ Answered (now (rows .entry)) m (now (heads .exit)) (now (next .exit)) r ⌝ }
 {
     let mut n: usize = 0;

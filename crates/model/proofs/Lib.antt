@@ -1,6 +1,7 @@
 -- The laws of document 01's terms.
 pub mod Numbers
 pub mod Choice
+pub mod Lists
 pub mod Good
 pub mod Counting
 pub mod Rows

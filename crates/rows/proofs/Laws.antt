@@ -6,7 +6,7 @@ use mathlib.Core.List.{List}
 use native.Mathlib.Omega.{arith}
 use native.Mathlib.Numerals.{add-one}
 use lib.ListN.{length, getD, set, take, drop, drop-of-length-le, length-set}
-use lib.Seq.{drop-cons, getD-set-same, getD-set-other}
+use lib.Seq.{getD-set-same, getD-set-other}
 use lib.Dec.{ltb}
 use borrow.Author.Count.{below-more}
 use Rattle.model.specs.declared.Kind.{Kind}
@@ -15,6 +15,7 @@ use Rattle.model.specs.Answers.{kindNumber}
 use Rattle.model.specs.Choice.{if_then_else_}
 use Rattle.model.specs.Table.{rowAt, rowStart, countAt, argsAt, Whole}
 use Rattle.model.specs.Check.{allBelow, cut, tooMany, outOfRange, notBelow}
+use Rattle.model.proofs.Lists.{drop-next}
 use Rattle.model.proofs.Checked.{not-cut, not-tooMany}
 use Rattle.rows.specs.declared.RowStep.{RowStep}
 use Rattle.rows.specs.declared.RowStep.the-variants.{Next, Faulty}
@@ -25,7 +26,7 @@ use Rattle.rows.specs.Walk.{rowStep, stepGround, formGround, Walk}
 -- the test on the arguments that are left
 pub below-step : (n : ℕ) (l : List ℕ) (i : ℕ) → i < length l → allBelow n (drop i l) ≡ ltb (getD l i 0) n && allBelow n (drop (i + 1) l)
 unfolding allBelow
-below-step n l i lt = rw (add-one, drop-cons l i 0)
+below-step n l i lt = rw (drop-next l i lt)
 
 pub below-end : (n : ℕ) (l : List ℕ) (i : ℕ) → length l ≤ i → allBelow n (drop i l) ≡ true
 unfolding allBelow

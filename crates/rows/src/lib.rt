@@ -1,4 +1,6 @@
 // Rows packed in one list, taken in turn: refusals 2 to 5, and where each row begins.
+use chains::wide;
+use chains::wider;
 use model::Kind;
 ghost use mathlib.Core.Path.{_≡_};
 ghost use Prim.Native.Nat.{_+_, _<_};
@@ -6,12 +8,6 @@ ghost use lib.ListN.{length};
 ghost use Rattle.model.specs.Table.{argsAt, rowAt, Whole};
 ghost use Rattle.model.specs.Check.{allBelow, cut, tooMany, outOfRange, notBelow};
 ghost use Rattle.rows.specs.Walk.{rowStep, passed, Walk};
-
-// The first number with a property, or nothing.
-pub enum Found {
-    At(usize),
-    Nothing,
-}
 
 // Where the next row begins, or the ground on which a row is faulty.
 pub enum RowStep {
@@ -23,18 +19,6 @@ pub enum RowStep {
 pub enum Walked {
     Passed(usize),
     Stopped(usize, Kind),
-}
-
-pub fn wide(x: u16) -> usize
-    ensures { λ r. ⌜ r ≡ x ⌝ }
-{
-    x as usize
-}
-
-pub fn wider(x: u16) -> u64
-    ensures { λ r. ⌜ r ≡ x ⌝ }
-{
-    x as u64
 }
 
 // The arguments of the whole row that begins at `at`, as a part of the rows.

@@ -13,7 +13,7 @@ use borrow.Author.Count.{below-more}
 use Rattle.model.specs.Choice.{if_then_else_, anyBelow}
 use Rattle.model.specs.Check.{acceptingGround}
 use Rattle.model.proofs.Choice.{or-right}
-use Rattle.rows.specs.declared.Found.the-variants.{At, Nothing}
+use Rattle.chains.specs.declared.Found.the-variants.{At, Nothing}
 use Rattle.table.specs.Checked.{AllFine, FirstAt, EntriesChecked}
 
 -- some entry before entry i is q

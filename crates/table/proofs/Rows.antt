@@ -16,14 +16,15 @@ use Rattle.model.specs.Check.{cut, tooMany, outOfRange, notBelow, repeated, row
 use Rattle.model.proofs.Numbers.{kind-positive}
 use Rattle.model.proofs.Choice.{is-false}
 use Rattle.model.proofs.Rows.{rowStart-grows, rowCount, howManyRows-is}
-use Rattle.rows.specs.declared.Found.{Found}
-use Rattle.rows.specs.declared.Found.the-variants.{At, Nothing}
+use Rattle.chains.specs.declared.Found.{Found}
+use Rattle.chains.specs.declared.Found.the-variants.{At, Nothing}
+use Rattle.chains.specs.First.{firstWith}
+use Rattle.chains.proofs.First.{first-is, first-none}
 use Rattle.rows.specs.declared.Walked.{Walked}
 use Rattle.rows.specs.declared.Walked.the-variants.{Passed, Stopped}
 use Rattle.rows.specs.declared.RowStep.the-variants.{Next, Faulty}
-use Rattle.rows.specs.Laid.{Laid, firstWith}
+use Rattle.rows.specs.Laid.{Laid}
 use Rattle.rows.specs.Walk.{rowStep, stepGround, formGround, passed, Walk}
-use Rattle.rows.proofs.First.{first-is, first-none}
 use Rattle.index.specs.Index.{Index, Answered}
 use Rattle.table.specs.Checked.{AllFine, FirstAt, RowsChecked}
 

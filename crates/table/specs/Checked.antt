@@ -8,12 +8,13 @@ use Rattle.model.specs.declared.Answer.the-variants.{Refused}
 use Rattle.model.specs.Answers.{Outcome, result, kindNumber, outcome}
 use Rattle.model.specs.Table.{howManyRows}
 use Rattle.model.specs.Check.{rowGround, acceptingGround, checkOutcome}
-use Rattle.rows.specs.declared.Found.{Found}
-use Rattle.rows.specs.declared.Found.the-variants.{At, Nothing}
+use Rattle.chains.specs.declared.Found.{Found}
+use Rattle.chains.specs.declared.Found.the-variants.{At, Nothing}
+use Rattle.chains.specs.Chains.{Clear}
 use Rattle.rows.specs.declared.Walked.{Walked}
 use Rattle.rows.specs.declared.Walked.the-variants.{Passed, Stopped}
 use Rattle.rows.specs.Laid.{Laid}
-use Rattle.index.specs.Index.{Index, Clear}
+use Rattle.index.specs.Index.{Index}
 use Rattle.counts.specs.Chain.{Chained, Unchained}
 use Rattle.counts.specs.States.{Known}
 use Rattle.table.specs.declared.Checked.{Checked}
@@ -70,7 +71,7 @@ pub record StatesAnswer (states : ℕ) (rows accepting : List ℕ) (n : ℕ) (fi
 -- arrays that have not been written
 pub record Blank (offsets heads next first after counts longest sums : List ℕ) : Type 0 where
   pub offsets-long : length offsets ≡ 1024
-  pub clear : Clear heads next
+  pub clear : Clear 2048 1024 heads next
   pub unchained : Unchained first after
   pub counts-long : length counts ≡ 256
   pub longest-long : length longest ≡ 256

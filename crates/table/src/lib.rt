@@ -1,16 +1,16 @@
 // Checking a table.
+use chains::Found;
 use counts::StateFault;
 use model::Answer;
 use model::Kind;
 use model::Refusal;
-use rows::Found;
 use rows::Walked;
 ghost use mathlib.Core.Path.{_≡_};
 ghost use Prim.Native.Nat.{_≤_};
 ghost use lib.ListN.{length};
 ghost use Rattle.model.specs.Answers.{outcome};
 ghost use Rattle.model.specs.Check.{checkOutcome};
-ghost use Rattle.index.specs.Index.{Clear};
+ghost use Rattle.chains.specs.Chains.{Clear};
 ghost use Rattle.table.specs.Checked.{EntriesChecked, RowsChecked, refusesAt, StatesReady, StatesAnswer, Blank, CheckAnswer};
 
 // What the internal check finds: the total and how many rows there are, or the refusal.
@@ -27,8 +27,8 @@ fn faulty_entry(states: u64, accepting: &[u16]) -> Found
     let mut seen = [0u8; 256];
     let mut i: usize = 0;
     while i < accepting.len() {
-        let q = rows::wide(accepting[i]);
-        if states <= rows::wider(accepting[i]) {
+        let q = chains::wide(accepting[i]);
+        if states <= chains::wider(accepting[i]) {
             return Found::At(i);
         }
         if seen[q] != 0 {
@@ -48,7 +48,7 @@ fn check_rows(
     heads: &mut [u16; 2048],
     next: &mut [u16; 1024],
 ) -> Walked
-    requires { ⌜ (length (now offsets) ≡ 1024) × Clear (now heads) (now next) ⌝ }
+    requires { ⌜ (length (now offsets) ≡ 1024) × Clear 2048 1024 (now heads) (now next) ⌝ }
     ensures { λ r. ⌜ RowsChecked states (now (rows .entry)) (now (offsets .exit)) (now (heads .exit)) (now (next .exit)) r ⌝ }
 {
     let walked = rows::walk_rows(states, rows, offsets);

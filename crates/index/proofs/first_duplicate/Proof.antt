@@ -5,10 +5,10 @@ use native.Mathlib.Omega.{arith}
 use borrow.Author.Needs.{needs}
 use Rattle.model.specs.Table.{rowStart, Whole}
 use Rattle.model.specs.Check.{repeated}
-use Rattle.rows.specs.declared.Found.{Found}
-use Rattle.rows.proofs.First.{isAt, apart}
-use Rattle.index.specs.Index.{Index}
+use Rattle.chains.specs.declared.Found.{Found}
+use Rattle.chains.proofs.First.{isAt, apart}
 use Rattle.rows.proofs.Laws.{laid-below, begins, whole-at}
+use Rattle.index.specs.Index.{Index}
 use Rattle.index.proofs.Laws.{indexed, index-begins, repeat-found, repeated-by, bucket-by}
 use Rattle.index.proofs.first_duplicate.Statement.{statement}
 use Rattle.index.proofs.first_duplicate.Tie as tie
@@ -31,7 +31,7 @@ asked : (c : tie.After-find-in Inv-loop μ-loop) → repeated (c .before .before
 asked c = repeated-by (c .before .before .before .before .before .before .before .before .before .before .before .args .rows .now) (c .before .before .before .before .before .before .before .before .before .loop .n) _ _ _ (start (c .before .before .before .before .before .before)) (c .before .before .before .before .args-at .ensures) (c .find-in .ensures)
 
 loop-holds : tie.Need-loop-holds Inv-loop μ-loop
-loop-holds c = (index-begins _ _ _ (c .before .pre .1), search needs)
+loop-holds c = (index-begins _ (c .before .pre .1), search needs)
 
 mul-symbol : tie.Need-mul-symbol Inv-loop μ-loop
 mul-symbol c = omega (arith, row c)

@@ -4,12 +4,13 @@ use native.Mathlib.Omega.{arith}
 use lib.ListN.{length, drop}
 use borrow.Author.Needs.{needs}
 use native.Mathlib.Nat.{mod-lt}
-use Rattle.index.specs.Index.{mixAll, hashOf, bucket}
-use Rattle.index.proofs.Laws.{mix-step, mix-end}
+use Rattle.chains.specs.Hash.{mixAll, spread}
+use Rattle.chains.proofs.Hash.{mix-step, mix-end}
+use Rattle.index.specs.Index.{hashOf}
 use Rattle.index.proofs.hash.Statement.{statement}
 use Rattle.index.proofs.hash.Tie as tie
 
-small : (h : ℕ) → bucket h < 2048
+small : (h : ℕ) → spread 2097152 h < 2048
 small h = omega arith
 
 abbrev Inv-loop : tie.InvT-loop
@@ -35,7 +36,7 @@ unfolding hashOf
 returns c =
     let q = c .before in
     let l = q .before .before .before .args .args .now in
-    (ap (λ (h : ℕ). bucket h) (sym (mix-end (q .loop .h) l (q .loop .i) (c .loop-test .left)) ∙ q .loop .inv .2), small (q .loop .h))
+    (ap (λ (h : ℕ). spread 2097152 h) (sym (mix-end (q .loop .h) l (q .loop .i) (c .loop-test .left)) ∙ q .loop .inv .2), small (q .loop .h))
 
 pub hash-spec : {M : Type 1} → statement M
 hash-spec =

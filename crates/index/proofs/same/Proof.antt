@@ -5,7 +5,7 @@ use native.Mathlib.Omega.{arith}
 use lib.ListN.{length, drop}
 use borrow.Author.Tests.{eq-eqb, ne-eqb}
 use Rattle.model.specs.Table.{sameList}
-use Rattle.index.proofs.Laws.{same-step, same-end, same-length}
+use Rattle.model.proofs.Lists.{same-step, same-end, same-length}
 use Rattle.index.proofs.same.Statement.{statement}
 use Rattle.index.proofs.same.Tie as tie
 

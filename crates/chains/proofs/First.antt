@@ -1,4 +1,4 @@
--- Laws of the first number with a property, of 'some number below', and of the tests on rows. Assumes nothing.
+-- Laws of the first number with a property, and of 'some number below'. Assumes nothing.
 use Prim.Native.Nat.{ℕ, zero, suc, _+_, _<_}
 use mathlib.Core.Path.{_≡_, refl, sym, _∙_}
 use mathlib.Core.Bool.{Bool, true, false, _||_}
@@ -7,9 +7,9 @@ use native.Mathlib.Numerals.{add-one}
 use lib.Dec.{ltb}
 use borrow.Author.Tests.{ltb-true, ltb-false}
 use Rattle.model.specs.Choice.{anyBelow}
-use Rattle.rows.specs.declared.Found.{Found}
-use Rattle.rows.specs.declared.Found.the-variants.{At, Nothing}
-use Rattle.rows.specs.Laid.{orElse, firstWith}
+use Rattle.chains.specs.declared.Found.{Found}
+use Rattle.chains.specs.declared.Found.the-variants.{At, Nothing}
+use Rattle.chains.specs.First.{orElse, firstWith}
 
 -- something was found
 abbrev pub isAt : Found → Bool
