@@ -1,8 +1,9 @@
-"""Writes test tables, one a line, for the program of crates/cases: `states k e1 .. ek m a1 .. am`.
+"""Writes test cases, one a line, for the program of crates/cases, which has the form of a line.
 
-    make_cases.py SEED COUNT              the tables: the edges, which are always the same, then COUNT drawn ones
+    make_cases.py SEED COUNT              the edges, which are always the same; COUNT drawn tables to check, COUNT / 2
+                                          drawn terms to read, and their trees to write; lines that are no cases
     make_cases.py SEED COUNT --expected   the answers of the reference to them, a line each
-    make_cases.py SEED COUNT --tally      how many tables have each answer
+    make_cases.py SEED COUNT --tally      how many cases have each answer
 
 An edge comes with its answer, written down by hand; the program stops if the reference gives another.
 """
@@ -11,7 +12,8 @@ import random
 import sys
 from collections import Counter
 
-from treenum_reference import check
+import term_cases
+from treenum_reference import check, read_term, write_term
 
 LIMIT = 4294967295
 
@@ -263,6 +265,10 @@ def edges():
     yield (1, [1, 0, 0], [0] * 2000), 'refused 7 1'
     yield (1, [1, 0, 0, 1], [7]), 'refused 2 1'
 
+    # the longest lists that the program takes
+    yield (1, [0] * 66000, []), 'refused 4 0'
+    yield (1, [1, 0, 0], [0] * 66000), 'refused 7 1'
+
     # counts: 65,535 * 65,537 passes, 65,536 * 65,536 does not
     t = Table()
     a, b = t.counting(65535), t.counting(65537)
@@ -400,14 +406,54 @@ def edges():
     yield t.case(), f'refused 10 {long}'
 
 
-# Lines that are no table, which the program answers by `bad line`
+# Lines that are no cases, which the program answers by `bad line`
 
-BAD_LINES = ['', ' ', '0', '0 0', '0 0 ', '0 0 0 ', ' 0 0 0', '0  0 0', '0 0 0 0', '0 1 0', '0 1 0 0 0',
-             '0 0 1', '1 3 1 0 0 1', '1 3 1 0 0 1 0 0', '1 3 1 0 0 2 0', '1 5 1 0 0 1 0', '-1 0 0', '+1 0 0', '1,0,0',
-             '0 0 0\r', '0\t0 0', 'a 0 0', '0x1 0 0', '1.0 0 0', '18446744073709551616 0 0',
-             '18446744073709551620 0 0', '184467440737095516150 0 0', '99999999999999999999999999999999 0 0',
-             '1 3 65536 0 0 0', '1 3 1 0 65536 0', '0 65536 0', '0 0 65536', '1 3 1 0 0 1 65536',
-             '1 3 18446744073709551617 0 0 0', '1 26001' + ' 0' * 26002]
+BAD_TABLES = ['', ' ', '0', '0 0', '0 0 ', '0 0 0 ', ' 0 0 0', '0  0 0', '0 0 0 0', '0 1 0', '0 1 0 0 0',
+              '0 0 1', '1 3 1 0 0 1', '1 3 1 0 0 1 0 0', '1 3 1 0 0 2 0', '1 5 1 0 0 1 0', '-1 0 0', '+1 0 0', '1,0,0',
+              '0 0 0\r', '0\t0 0', 'a 0 0', '0x1 0 0', '1.0 0 0', '18446744073709551616 0 0',
+              '18446744073709551620 0 0', '184467440737095516150 0 0', '99999999999999999999999999999999 0 0',
+              '1 3 65536 0 0 0', '1 3 1 0 65536 0', '0 65536 0', '0 0 65536', '1 3 1 0 0 1 65536',
+              '1 3 18446744073709551617 0 0 0', '1 66001 99999 66001 1 0 0', '1 0 66001 99999 66001 1 0',
+              '0 18446744073709551615 0', '0 0 18446744073709551615']
+BAD_LINES = ['', ' ', '1', '4', '5', '0 0 0 0', '2 0 0 0', '3 0 0 0', '6 0 0 0', '7 0 0', '14 0 0 0', '257 0 0 0', ' 4 0 0 0',
+             '18446744073709551617 0 0 0',
+             # lists that are not whole, or followed by more
+             '4 0', '4 0 0', '4 0 0 0 0', '4 1 97 0', '4 2 97 0 0', '4 0 1 97', '4 0 1 97 1', '4 0 1 97 0 0', '4 0 0 1', '4 0 0 1 0 0',
+             '5 0', '5 0 0', '5 0 0 0 0', '5 1 97 0', '5 0 2 1 0', '5 0 0 1', '4 18446744073709551615 0 0', '5 0 18446744073709551615 0',
+             '4 0 0 18446744073709551615',
+             # entries that do not fit
+             '4 1 256 0 0', '4 0 1 256 0', '4 0 0 1 65536', '5 1 256 0 0', '5 0 1 65536 0', '5 0 0 1 256', '4 1 65633 0 0',
+             # too long
+             '4 66001 99999 66001 1 97 0 0', '4 0 66001 99999 66001 1 97 0', '4 0 0 66001 99999 66001 1 0',
+             '5 66001 99999 66001 1 97 0 0', '5 0 66001 99999 66001 1 0 0', '5 0 0 66001 99999 66001 1 0',
+             # short forms that are none, or too long
+             '4 2 99999', '4 2 99999 2', '4 2 99999 2 1', '4 2 99999 2 0', '4 2 99999 2 0 0 0', '4 2 99999 2 3 97 0',
+             '4 2 99999 1 1 97 0 0', '4 2 99999 3 1 97 0 0', '4 0 0 0 99999 80001 1 0', '4 0 0 0 99999 79998 1 0', '4 0 0 99999 18446744073709551615 1 0',
+             '4 0 0 0 99999 1 18446744073709551615 0', '99999 2 1 4 0 0', '4 99999 2 1 0 0 0']
+
+
+# The short form of a list
+
+def shortened(entries):
+    """The list as numbers of a line, with `99999 c k v1 .. vk` for c entries that are v1 to vk over and over."""
+    entries = list(entries)
+    if len(entries) <= 64:
+        return entries
+    numbers = []
+    at = 0
+    while at < len(entries):
+        for k in range(1, 31):
+            end = at + k
+            while end < len(entries) and entries[end] == entries[end - k]:
+                end += 1
+            if end - at > k + 20:
+                numbers += [99999, end - at, k, *entries[at:at + k]]
+                at = end
+                break
+        else:
+            numbers.append(entries[at])
+            at += 1
+    return numbers
 
 
 # Drawn tables
@@ -617,34 +663,73 @@ def drawn(seed, count):
 
 # The output
 
-def shown(answer):
-    return ' '.join(map(str, answer))
+CHECK = 1
+
+
+def digest(entries):
+    number = 0
+    for entry in entries:
+        number = (number * 65599 + entry) % 4294967291
+    return number
+
+
+def shown(outcome, lent=None):
+    """An answer, and what the lent list then holds."""
+    answer = ' '.join(map(str, outcome))
+    if lent is None:
+        return answer
+    held = map(str, lent if len(lent) <= 64 else [len(lent), 'entries', digest(lent)])
+    return ' '.join([answer + ';', *held])
+
+
+def answer_to(operation, *case):
+    if operation == CHECK:
+        return shown(check(*case))
+    return shown(*(read_term if operation == term_cases.READ else write_term)(*case))
+
+
+def all_edges():
+    """Cases with their answers, by hand."""
+    for case, by_hand in edges():
+        yield (CHECK, *case), by_hand
+    for case, by_hand, held in term_cases.edges():
+        yield case, shown([by_hand], case[3] if held is None else held)
 
 
 def cases(seed, count):
     """Pairs of a line and its answer."""
-    for case, by_hand in edges():
-        answer = shown(check(*case))
+    for case, by_hand in all_edges():
+        answer = answer_to(*case)
         if answer != by_hand:
-            sys.exit(f'the reference answers `{answer}` to an edge, not `{by_hand}`: {line(case)[:400]}')
-        yield case, answer
+            sys.exit(f'the reference answers `{answer[:400]}` to an edge, not `{by_hand[:400]}`: {line(*case)[:400]}')
+        yield line(*case), answer
     for case in drawn(seed, count):
-        yield case, shown(check(*case))
+        yield line(CHECK, *case), answer_to(CHECK, *case)
+    for case in term_cases.drawn(Draw(seed), count // 2):
+        yield line(*case), answer_to(*case)
+    for text in ['1 ' + text for text in BAD_TABLES] + BAD_LINES:
+        yield text, 'bad line'
 
 
-def line(case):
-    states, rows, accepting = case
-    return ' '.join(map(str, (states, len(rows), *rows, len(accepting), *accepting)))
+def line(operation, first, *lists):
+    """The case as a line: a number or a list, then lists."""
+    numbers = [operation]
+    if operation == CHECK:
+        numbers.append(first)
+    else:
+        lists = (first, *lists)
+    for entries in lists:
+        numbers += [len(entries), *shortened(entries)]
+    return ' '.join(map(str, numbers))
 
 
 def main(arguments):
     mode = arguments.pop() if arguments and arguments[-1] in ('--expected', '--tally') else '--cases'
     if len(arguments) != 2:
         sys.exit('usage: make_cases.py SEED COUNT [--expected | --tally]')
-    both = [(line(case), answer) for case, answer in cases(*map(int, arguments))]
-    both += [(text, 'bad line') for text in BAD_LINES]
+    both = list(cases(*map(int, arguments)))
     if mode == '--tally':
-        tally = Counter(' '.join(answer.split()[:2 if answer[0] == 'r' else 1]) for _, answer in both)
+        tally = Counter(' '.join(answer.split(';')[0].split()[:2 if answer[0:3] == 'ref' else 1]) for _, answer in both)
         print(len(both), 'cases:', ', '.join(f'{tally[key]} {key}' for key in sorted(tally, key=lambda key: (len(key), key))))
     else:
         sys.stdout.writelines(pair[mode == '--expected'] + '\n' for pair in both)

@@ -1,14 +1,21 @@
-"""Checking a table, written a second time from document 01, in plain Python.
+"""Checking a table, reading a term and writing a term, written a second time from document 01, in plain Python.
 
 check(states, rows, accepting) answers ('total', N) or ('refused', number, place). Numbers have no upper
-bound here. Quotations are document 01's sentences, in its order.
+bound here.
 
-Run with --self-test: compares with document 01's own numbers, and with trees that are listed one by one.
+read_term(names, text, lent) and write_term(names, tree, lent) answer a pair: ('result', N) or ('refused',
+number, place), and what the lent list then holds. Names and texts are bytes, trees are lists of numbers.
+
+Quotations are document 01's sentences.
+
+Run with --self-test: compares with document 01's own numbers, and with trees, terms and texts that are listed
+one by one.
 """
 
 import itertools
 import math
 import random
+import re
 import sys
 from collections import namedtuple
 
@@ -148,6 +155,202 @@ class Counts:
         return self.longest_trees[state]
 
 
+# Names lists
+
+LETTERS = b'ABCDEFGHIJKLMNOPQRSTUVWXYZabcdefghijklmnopqrstuvwxyz'
+DIGITS = b'0123456789'
+
+
+def name_pattern(longest):
+    """'an ASCII letter, then letters, digits, `-` or `_`', at most so many bytes in all"""
+    return re.compile(b'[' + LETTERS + b'][' + LETTERS + DIGITS + b'_-]{0,%d}' % (longest - 1))
+
+
+# 'A name is 1 to 24 bytes'
+NAME = name_pattern(24)
+
+
+def lines_of(names):
+    """The lines, each with the byte 10 that ends it; the last one may lack it."""
+    return [line for line in re.split(b'(?<=\n)', names) if line != b'']
+
+
+def names_fault(names):
+    """The place of 17, None for a names list: 'its first faulty line, or 0 if it is empty'"""
+    lines = lines_of(names)
+    if not lines:
+        return 0
+    for k, line in enumerate(lines):
+        # 'of equal names the later line is faulty, and so are a 256th line and a last line without byte 10'
+        if not line.endswith(b'\n') or not NAME.fullmatch(line[:-1]) or line in lines[:k] or k + 1 >= 256:
+            return k
+    return None
+
+
+def names_of(names):
+    """'Line k (from 0) names symbol k + 1.': the names in turn."""
+    return [line[:-1] for line in lines_of(names)]
+
+
+# Terms and trees as nodes. `place` is where a term's name begins in its text.
+
+Node = namedtuple('Node', 'name place children')
+
+
+def parse(text, pattern=NAME):
+    """The term that a text is, as a node; if it is none, the place of 19.
+
+    'A term is a name, or a name followed by `(`, one or more terms with `,` between them, and `)`.'
+
+    'the first byte with which no term can go on, or the text's length if it ends too soon': what can go on with
+    a byte is looked at from byte to byte, and the first that cannot is the place.
+    """
+    opened = []   # the nodes whose `)` is to come
+    at = 0
+    while True:
+        # a term begins, with its name
+        name = pattern.match(text, at)
+        if name is None:
+            return at
+        node = Node(name.group(), at, [])
+        if opened:
+            opened[-1].children.append(node)
+        at = name.end()
+        if text[at:at + 1] == b'(':
+            opened.append(node)
+            at += 1
+            continue
+        # it has ended, and each `)` ends one more
+        while opened and text[at:at + 1] == b')':
+            node = opened.pop()
+            at += 1
+        if opened and text[at:at + 1] == b',':
+            at += 1
+            continue
+        return node if not opened and at == len(text) else at
+
+
+def nodes_of(term):
+    """The nodes in the order of their names in the text."""
+    waiting = [term]
+    while waiting:
+        node = waiting.pop()
+        yield node
+        waiting.extend(reversed(node.children))
+
+
+def entries_of(term, names):
+    """'the symbol of a node, its children one after another, then the bar, which is entry 0'"""
+    symbols = {name: k + 1 for k, name in enumerate(names)}
+    bar = object()
+    entries = []
+    waiting = [term]
+    while waiting:
+        node = waiting.pop()
+        if node is bar:
+            entries.append(0)
+        else:
+            entries.append(symbols[node.name])
+            waiting += [bar, *reversed(node.children)]
+    return entries
+
+
+def read_term(names, text, lent):
+    """'Reading a term gives the count of tree entries written at the front; later entries stay.'"""
+    # 'A refusal writes to no lent list.'
+    same = list(lent)
+
+    # 'A names list against the rules above is 17, the place being its first faulty line, or 0 if it is empty'
+    fault = names_fault(names)
+    if fault is not None:
+        return refused(17, fault), same
+
+    # 'A text above 65,536 bytes is 18.'
+    if len(text) > 65536:
+        return refused(18), same
+
+    # 'A text that is no term is 19, the place being the first byte with which no term can go on, or the text's
+    # length if it ends too soon.'
+    term = parse(text)
+    if not isinstance(term, Node):
+        return refused(19, term), same
+
+    # 'A name not listed is 20, at its first byte, the earliest such name.'
+    listed = names_of(names)
+    for node in nodes_of(term):
+        if node.name not in listed:
+            return refused(20, node.place), same
+
+    # 'A tree above 4,096 entries is 21.'
+    tree = entries_of(term, listed)
+    if len(tree) > 4096:
+        return refused(21), same
+
+    # 'A short lent list is 22, with the entries needed.'
+    if len(lent) < len(tree):
+        return refused(22, len(tree)), same
+    return ('result', len(tree)), tree + same[len(tree):]
+
+
+def tree_fault(tree):
+    """The place of 13, None for a well-formed tree.
+
+    'each entry read opens a node, closes one, or is refused: the place is the first entry that is above 255, is a
+    bar with no node open, or follows the root's bar; for a list that ends too soon (an empty one too) the place
+    is its length.'
+    """
+    opened = 0
+    for place, entry in enumerate(tree):
+        follows = place > 0 and opened == 0
+        if entry > 255 or (entry == 0 and opened == 0) or follows:
+            return place
+        opened += -1 if entry == 0 else 1
+    return len(tree) if opened > 0 or len(tree) == 0 else None
+
+
+def text_of(tree, names):
+    """The term of a well-formed tree.
+
+    'A term is a name, or a name followed by `(`, one or more terms with `,` between them, and `)`.'
+    """
+    opened = [(None, [])]   # the names of the open nodes, with the terms of their children so far
+    for entry in tree:
+        if entry != 0:
+            opened.append((names[entry - 1], []))
+        else:
+            name, children = opened.pop()
+            opened[-1][1].append(name + b'(' + b','.join(children) + b')' if children else name)
+    return opened[0][1][0]
+
+
+def write_term(names, tree, lent):
+    """'Writing a term gives the count of bytes written at the front; later bytes stay.'"""
+    # 'A refusal writes to no lent list.'
+    same = bytes(lent)
+
+    # 'It refuses 17, then 12, then 13, as above.' 'More than 4,096 entries is 12.'
+    fault = names_fault(names)
+    if fault is not None:
+        return refused(17, fault), same
+    if len(tree) > 4096:
+        return refused(12), same
+    fault = tree_fault(tree)
+    if fault is not None:
+        return refused(13, fault), same
+
+    # 'A symbol above the count of names is 23, at the first such entry.'
+    listed = names_of(names)
+    for place, entry in enumerate(tree):
+        if entry > len(listed):
+            return refused(23, place), same
+
+    # 'A short lent list is 24, with the bytes needed.'
+    text = text_of(tree, listed)
+    if len(lent) < len(text):
+        return refused(24, len(text)), same
+    return ('result', len(text)), text + same[len(text):]
+
+
 # The self test. A tree is a pair of its symbol and the tuple of its children.
 
 def entries(tree):
@@ -244,6 +447,149 @@ def small_table(draw):
     return states, rows, accepting
 
 
+# Terms by the grammar alone, for short texts. A name has at most `longest` bytes.
+
+class Grammar:
+    """'A term is a name, or a name followed by `(`, one or more terms with `,` between them, and `)`.'"""
+
+    def __init__(self, longest):
+        self.longest = longest
+        self.known = {}
+
+    def kept(self, question, text):
+        if (question, text) not in self.known:
+            self.known[question, text] = question(text)
+        return self.known[question, text]
+
+    def is_name(self, text):
+        return (1 <= len(text) <= self.longest and text[:1].isalpha()
+                and all(byte in LETTERS + DIGITS + b'-_' for byte in text))
+
+    def is_term(self, text):
+        return self.is_name(text) or (text.endswith(b')') and any(
+            self.is_name(text[:i]) and text[i:i + 1] == b'(' and self.kept(self.are_terms, text[i + 1:-1])
+            for i in range(len(text))))
+
+    def are_terms(self, text):
+        """One or more terms with `,` between them."""
+        return self.kept(self.is_term, text) or any(
+            text[i:i + 1] == b',' and self.kept(self.is_term, text[:i]) and self.kept(self.are_terms, text[i + 1:])
+            for i in range(len(text)))
+
+    def goes_on(self, text):
+        """Whether a term begins with this text: with a part of a name, or with a name, `(` and a part of the terms."""
+        return text == b'' or self.kept(self.is_term, text) or any(
+            self.is_name(text[:i]) and text[i:i + 1] == b'(' and self.kept(self.terms_go_on, text[i + 1:])
+            for i in range(len(text)))
+
+    def terms_go_on(self, text):
+        return self.kept(self.goes_on, text) or any(
+            text[i:i + 1] == b',' and self.kept(self.is_term, text[:i]) and self.kept(self.terms_go_on, text[i + 1:])
+            for i in range(len(text)))
+
+    def place(self, text):
+        """The place of 19, None for a term."""
+        if self.kept(self.is_term, text):
+            return None
+        return next((i for i in range(len(text)) if not self.kept(self.goes_on, text[:i + 1])), len(text))
+
+
+def all_lists(items, most):
+    """All lists of at most so many of the items."""
+    return itertools.chain.from_iterable(itertools.product(items, repeat=n) for n in range(most + 1))
+
+
+def term_of(node):
+    """The text of a node, by itself."""
+    return node.name + (b'(' + b','.join(map(term_of, node.children)) + b')' if node.children else b'')
+
+
+def list_of(tree):
+    """The list of a tree that is a pair: 'the symbol of a node, its children one after another, then the bar'"""
+    symbol, children = tree
+    return [symbol, *itertools.chain.from_iterable(map(list_of, children)), 0]
+
+
+def term_tests(expect):
+    # Every short text, with names of at most 2 bytes: its place, or its nodes.
+    grammar = Grammar(2)
+    pattern = name_pattern(2)
+    terms = []
+    wrong = []
+    for text in map(bytes, all_lists(b'a1(),!', 7)):
+        place = grammar.place(text)
+        found = parse(text, pattern)
+        if place is None:
+            terms.append(text)
+            if not isinstance(found, Node) or term_of(found) != text:
+                wrong.append(text)
+        elif found != place:
+            wrong.append(text)
+    expect('places of texts', wrong, [])
+    # `goes_on` against the terms themselves: a text of at most 4 bytes that goes on is a term after at most 3 more
+    beginnings = {text[:n] for text in terms for n in range(5)}
+    expect('beginnings of terms', beginnings,
+           {text for text in map(bytes, all_lists(b'a1(),!', 4)) if grammar.goes_on(text)})
+    # Names byte by byte
+    for byte in range(256):
+        one = bytes([byte])
+        expect(f'byte {byte} as a name', parse(one), Node(one, 0, []) if one.isalpha() else 0)
+        inside = one.isalnum() or one in b'-_'
+        expect(f'byte {byte} in a name', parse(b'a' + one), Node(b'a' + one, 0, []) if inside else 2 if one == b'(' else 1)
+    expect('24 bytes', parse(b'a' * 24), Node(b'a' * 24, 0, []))
+    expect('25 bytes', parse(b'a' * 25), 24)
+    expect('25 bytes within', parse(b'a(b,' + b'c' * 25 + b')'), 28)
+
+    # Every short list: well-formed are those of the trees, and 13's place is the first entry that begins no such list.
+    known = {}
+    lists = {tuple(list_of(tree)) for nodes in range(1, 5) for tree in all_trees([1, 255], nodes, known)}
+    beginnings = {entries[:n] for entries in lists for n in range(9)}
+    wrong = []
+    for entries in all_lists([0, 1, 255, 256, 65535], 4):
+        place = next((i for i in range(len(entries)) if entries[:i + 1] not in beginnings), len(entries))
+        if tree_fault(list(entries)) != (None if entries in lists else place):
+            wrong.append(entries)
+    for entries in all_lists([0, 1], 8):
+        place = next((i for i in range(len(entries)) if entries[:i + 1] not in beginnings), len(entries))
+        if entries.count(1) <= 4 and tree_fault(list(entries)) != (None if entries in lists else place):
+            wrong.append(entries)
+    expect('places of lists', wrong, [])
+
+    # Every short names list: a line is faulty or not by its bytes, its place and the lines before it.
+    wrong = []
+    for names in map(bytes, all_lists(b'aB1\n!', 6)):
+        lines, faulty = [b''], None
+        for byte in names:
+            lines[-1] += bytes([byte])
+            if byte == 10:
+                lines.append(b'')
+        if lines[-1] == b'':
+            lines.pop()
+        for k in reversed(range(len(lines))):
+            if lines[k][-1:] != b'\n' or lines[k] in lines[:k] or not Grammar(24).is_name(lines[k][:-1]):
+                faulty = k
+        if names_fault(names) != (0 if names == b'' else faulty):
+            wrong.append(names)
+    expect('faulty lines', wrong, [])
+
+    # The paper's trees, there and back; every small tree too.
+    names = b'a\nb\n'
+    for text, tree in ((b'a(a,a)', [1, 1, 0, 1, 0, 0]), (b'b(a,b)', [2, 1, 0, 2, 0, 0]), (b'a', [1, 0]),
+                       (b'b(b(a,b),a(b,b),b)', [2, 2, 1, 0, 2, 0, 0, 1, 2, 0, 2, 0, 0, 2, 0, 0])):
+        expect(f'reading {text}', read_term(names, text, [7] * 20),
+               (('result', len(tree)), tree + [7] * (20 - len(tree))))
+        expect(f'writing {tree}', write_term(names, tree, b'!' * 20), (('result', len(text)), text + b'!' * (20 - len(text))))
+    wrong = []
+    known = {}
+    for nodes in range(1, 6):
+        for tree in all_trees([1, 2], nodes, known):
+            entries = list_of(tree)
+            (word, n), text = write_term(names, entries, bytes(30))
+            if read_term(names, text[:n], [9] * 10) != (('result', 2 * nodes), entries + [9] * (10 - 2 * nodes)):
+                wrong.append(entries)
+    expect('trees there and back', wrong, [])
+
+
 def self_test():
     tried = failed = 0
 
@@ -298,6 +644,8 @@ def self_test():
         if max((counts.longest(state) or 0 for state in range(states)), default=0) <= 10:
             expect(f'trees of {states} {rows} {accepting}', agrees(states, rows, accepting), True)
             small += 1
+
+    term_tests(expect)
 
     print(f'reference: {tried} self tests, {failed} failed')
     return failed == 0

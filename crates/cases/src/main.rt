@@ -1,17 +1,31 @@
-// Reads tables from standard input, one a line, and prints the answer of the check to each, one a line.
+// Reads test cases from standard input, one a line, and prints the library's answer to each, one a line.
 //
-// A line is `states k e1 .. ek m a1 .. am`: the count of states, the k row entries, the m accepting
-// entries, in decimal, with one blank between two numbers. Any other line prints `bad line`, and so does
-// one with a number that does not fit (states: 64 bits, all others: 16) or too many numbers.
+// A line is decimal numbers with one blank between two. The first is the operation:
+//
+//     1 states k e1 .. ek m a1 .. am               check the table of these row entries and accepting entries
+//     4 k n1 .. nk m t1 .. tm l x1 .. xl           read the term t over the names n into the lent list x
+//     5 k n1 .. nk m t1 .. tm l x1 .. xl           write the tree t over the names n into the lent list x
+//
+// From the third number on, `99999 c k v1 .. vk` is short for c numbers: v1 to vk in turn, over and over.
+//
+// A check is answered by `total N`, the others by `result N`; a refusal is `refused`, its number and its place.
+// After an answer to 4 or 5 comes what the lent list then holds: `;` and its entries, or, if there are
+// more than 64, `;`, their count, `entries` and their digest. Any other line prints `bad line`, and so does one
+// with a number that does not fit (names and texts: 8 bits; rows, accepting entries and trees: 16; all
+// others: 64), a list of more than 66,000 or more than 80,000 numbers.
 use libc::STDIN_FILENO;
 use libc::STDOUT_FILENO;
 use model::Answer;
 use model::Refusal;
 ghost use mathlib.Core.Path.{_≡_};
+ghost use lib.ListN.{length};
 ghost use Rattle.cases.specs.Decimal.{grown};
 
-// The numbers of a line after the count of states: k, m and 26,000 entries.
-const ROOM: usize = 26002;
+// The numbers of a line.
+const ROOM: usize = 80000;
+
+// The entries of a list.
+const LIST: usize = 66000;
 
 // A number with one decimal digit more.
 enum Grown {
@@ -32,14 +46,11 @@ fn grow(value: u64, digit: u64) -> Grown
     Grown::Fits(tens + digit)
 }
 
-// A line so far. The numbers after the first are kept in a list beside it.
+// A line so far. Its numbers are kept in a list beside it.
 struct Line {
     // every byte so far can stand in such a line
     good: bool,
-    // the first number is whole, and is `states`
-    headed: bool,
-    states: u64,
-    // how many numbers after the first are whole
+    // how many numbers are whole
     filled: usize,
     // the number that is being read has a digit, and is `value` so far
     begun: bool,
@@ -54,8 +65,6 @@ enum Fed {
 fn empty_line() -> Line {
     Line {
         good: true,
-        headed: false,
-        states: 0,
         filled: 0,
         begun: false,
         value: 0,
@@ -65,8 +74,6 @@ fn empty_line() -> Line {
 fn spoilt() -> Line {
     Line {
         good: false,
-        headed: false,
-        states: 0,
         filled: 0,
         begun: false,
         value: 0,
@@ -80,8 +87,6 @@ impl Line {
             Grown::TooLarge => spoilt(),
             Grown::Fits(v) => Line {
                 good: self.good,
-                headed: self.headed,
-                states: self.states,
                 filled: self.filled,
                 begun: true,
                 value: v,
@@ -90,36 +95,20 @@ impl Line {
     }
 
     // The number that is being read ends here.
-    fn closed(self, numbers: &mut [u16; ROOM]) -> Line {
+    fn closed(self, numbers: &mut [u64; ROOM]) -> Line {
         if !self.good {
             return spoilt();
         }
         if !self.begun {
             return spoilt();
         }
-        let value = self.value;
-        if !self.headed {
-            return Line {
-                good: true,
-                headed: true,
-                states: value,
-                filled: 0,
-                begun: false,
-                value: 0,
-            };
-        }
         let filled = self.filled;
-        if value > 65535 {
-            return spoilt();
-        }
         if filled >= ROOM {
             return spoilt();
         }
-        numbers[filled] = value as u16;
+        numbers[filled] = self.value;
         Line {
             good: true,
-            headed: true,
-            states: self.states,
             filled: filled + 1,
             begun: false,
             value: 0,
@@ -127,7 +116,7 @@ impl Line {
     }
 
     // A byte more.
-    fn feed(self, b: u8, numbers: &mut [u16; ROOM]) -> Fed {
+    fn feed(self, b: u8, numbers: &mut [u64; ROOM]) -> Fed {
         if b == b'\n' {
             return Fed::Whole(self.closed(numbers));
         }
@@ -151,21 +140,24 @@ fn bad_line() {
     io::write_all(STDOUT_FILENO, b"bad line\n");
 }
 
+fn end_line() {
+    io::write_all(STDOUT_FILENO, b"\n");
+}
+
 fn refused(r: Refusal) {
     let kind = r.kind;
     io::write_all(STDOUT_FILENO, b"refused ");
     io::print_decimal(STDOUT_FILENO, model::kind_number(kind) as u64);
     io::write_all(STDOUT_FILENO, b" ");
     io::print_decimal(STDOUT_FILENO, r.place);
-    io::write_all(STDOUT_FILENO, b"\n");
 }
 
-fn say(answer: Answer) {
+// An answer, its result under a word.
+fn say(word: &[u8], answer: Answer) {
     match answer {
-        Answer::Result(total) => {
-            io::write_all(STDOUT_FILENO, b"total ");
-            io::print_decimal(STDOUT_FILENO, total);
-            io::write_all(STDOUT_FILENO, b"\n");
+        Answer::Result(n) => {
+            io::write_all(STDOUT_FILENO, word);
+            io::print_decimal(STDOUT_FILENO, n);
         }
         Answer::Refused(r) => {
             refused(r);
@@ -173,47 +165,438 @@ fn say(answer: Answer) {
     }
 }
 
-fn size(x: u16) -> usize
+fn wide(x: u16) -> u64
+    ensures { λ r. ⌜ r ≡ x ⌝ }
+{
+    x as u64
+}
+
+// A digest with one entry more.
+fn digested(digest: u64, entry: u64) -> u64 {
+    ((digest % 4294967291) * 65599 + entry % 4294967291) % 4294967291
+}
+
+fn digest_of(list: &[u16]) -> u64 {
+    let mut digest: u64 = 0;
+    let mut i: usize = 0;
+    while i < list.len() {
+        digest = digested(digest, wide(list[i]));
+        i += 1;
+    }
+    digest
+}
+
+fn print_entry(entry: u64) {
+    io::write_all(STDOUT_FILENO, b" ");
+    io::print_decimal(STDOUT_FILENO, entry);
+}
+
+fn print_entries(list: &[u16]) {
+    let mut i: usize = 0;
+    while i < list.len() {
+        print_entry(wide(list[i]));
+        i += 1;
+    }
+}
+
+fn print_list(list: &[u16]) {
+    let n = list.len();
+    if n <= 64 {
+        print_entries(list);
+        return;
+    }
+    print_entry(n as u64);
+    io::write_all(STDOUT_FILENO, b" entries");
+    print_entry(digest_of(list));
+}
+
+// What a lent list, the first n of these entries, holds after the answer.
+fn say_list(list: &[u16; LIST], n: usize) {
+    if n > LIST {
+        return;
+    }
+    let all = &list[..];
+    io::write_all(STDOUT_FILENO, b";");
+    print_list(&all[0..n]);
+    end_line();
+}
+
+// The numbers as 16-bit entries at the front of the list. False where one does not fit.
+fn entries_of(numbers: &[u64], list: &mut [u16; LIST]) -> bool
+    ensures { λ _. ⌜ length (now (list .exit)) ≡ length (now (list .entry)) ⌝ }
+{
+    let mut i: usize = 0;
+    while i < numbers.len() {
+        if i >= LIST {
+            return false;
+        }
+        let n = numbers[i];
+        if n > 65535 {
+            return false;
+        }
+        list[i] = n as u16;
+        i += 1;
+    }
+    true
+}
+
+// The numbers as bytes at the front of the list. False where one does not fit.
+fn bytes_of(numbers: &[u64], list: &mut [u8; LIST]) -> bool
+    ensures { λ _. ⌜ length (now (list .exit)) ≡ length (now (list .entry)) ⌝ }
+{
+    let mut i: usize = 0;
+    while i < numbers.len() {
+        if i >= LIST {
+            return false;
+        }
+        let n = numbers[i];
+        if n > 255 {
+            return false;
+        }
+        list[i] = n as u8;
+        i += 1;
+    }
+    true
+}
+
+fn widened(b: u8) -> u16
+    ensures { λ r. ⌜ r ≡ b ⌝ }
+{
+    b as u16
+}
+
+// All bytes as 16-bit entries.
+fn widen(bytes: &[u8; LIST], list: &mut [u16; LIST]) {
+    let mut i: usize = 0;
+    while i < LIST {
+        list[i] = widened(bytes[i]);
+        i += 1;
+    }
+}
+
+fn answer_check(states: u64, rows: &[u64], accepting: &[u64]) {
+    let k = rows.len();
+    let m = accepting.len();
+    if k > LIST {
+        bad_line();
+        return;
+    }
+    if m > LIST {
+        bad_line();
+        return;
+    }
+    let mut r = [0u16; LIST];
+    if !entries_of(rows, &mut r) {
+        bad_line();
+        return;
+    }
+    let mut a = [0u16; LIST];
+    if !entries_of(accepting, &mut a) {
+        bad_line();
+        return;
+    }
+    say(b"total ", table::check(states, &r[0..k], &a[0..m]));
+    end_line();
+}
+
+fn answer_read(names: &[u64], text: &[u64], lent: &[u64]) {
+    let k = names.len();
+    let m = text.len();
+    let l = lent.len();
+    if k > LIST {
+        bad_line();
+        return;
+    }
+    if m > LIST {
+        bad_line();
+        return;
+    }
+    if l > LIST {
+        bad_line();
+        return;
+    }
+    let mut n = [0u8; LIST];
+    if !bytes_of(names, &mut n) {
+        bad_line();
+        return;
+    }
+    let mut t = [0u8; LIST];
+    if !bytes_of(text, &mut t) {
+        bad_line();
+        return;
+    }
+    let mut x = [0u16; LIST];
+    if !entries_of(lent, &mut x) {
+        bad_line();
+        return;
+    }
+    say(
+        b"result ",
+        term::read_term(&n[0..k], &t[0..m], &mut x[0..l]),
+    );
+    say_list(&x, l);
+}
+
+fn answer_write(names: &[u64], tree: &[u64], lent: &[u64]) {
+    let k = names.len();
+    let m = tree.len();
+    let l = lent.len();
+    if k > LIST {
+        bad_line();
+        return;
+    }
+    if m > LIST {
+        bad_line();
+        return;
+    }
+    if l > LIST {
+        bad_line();
+        return;
+    }
+    let mut n = [0u8; LIST];
+    if !bytes_of(names, &mut n) {
+        bad_line();
+        return;
+    }
+    let mut t = [0u16; LIST];
+    if !entries_of(tree, &mut t) {
+        bad_line();
+        return;
+    }
+    let mut x = [0u8; LIST];
+    if !bytes_of(lent, &mut x) {
+        bad_line();
+        return;
+    }
+    say(
+        b"result ",
+        term::write_term(&n[0..k], &t[0..m], &mut x[0..l]),
+    );
+    let mut shown = [0u16; LIST];
+    widen(&x, &mut shown);
+    say_list(&shown, l);
+}
+
+fn answer_term(operation: u64, names: &[u64], term: &[u64], lent: &[u64]) {
+    if operation == 4 {
+        answer_read(names, term, lent);
+        return;
+    }
+    if operation == 5 {
+        answer_write(names, term, lent);
+        return;
+    }
+    bad_line();
+}
+
+fn size(x: u64) -> usize
     ensures { λ r. ⌜ r ≡ x ⌝ }
 {
     x as usize
 }
 
-// The answer to the numbers of a line: `k e1 .. ek m a1 .. am` after the count of states.
-fn answer_numbers(states: u64, numbers: &[u16]) {
+// The numbers `k e1 .. ek m a1 .. am` of a check.
+fn take_check(states: u64, numbers: &[u64]) {
     let n = numbers.len();
     if n < 2 {
         bad_line();
         return;
     }
     let k = size(numbers[0]);
-    if n - 2 < k {
+    if k > n - 2 {
         bad_line();
         return;
     }
     let m = size(numbers[k + 1]);
-    if n - 2 - k != m {
+    if m != n - 2 - k {
         bad_line();
         return;
     }
-    say(table::check(states, &numbers[1..k + 1], &numbers[k + 2..]));
+    answer_check(states, &numbers[1..k + 1], &numbers[k + 2..]);
 }
 
-fn answer_line(line: Line, numbers: &[u16]) {
+// The numbers `n1 .. nk m t1 .. tm l x1 .. xl` of a term.
+fn take_term(operation: u64, k: usize, numbers: &[u64]) {
+    let n = numbers.len();
+    if n < 2 {
+        bad_line();
+        return;
+    }
+    if k > n - 2 {
+        bad_line();
+        return;
+    }
+    let m = size(numbers[k]);
+    if m > n - 2 - k {
+        bad_line();
+        return;
+    }
+    let l = size(numbers[k + m + 1]);
+    if l != n - 2 - k - m {
+        bad_line();
+        return;
+    }
+    answer_term(
+        operation,
+        &numbers[0..k],
+        &numbers[k + 1..k + m + 1],
+        &numbers[k + m + 2..],
+    );
+}
+
+// The numbers of a line: its first two, and those after them with the short forms written out.
+fn answer_numbers(operation: u64, second: u64, numbers: &[u64]) {
+    if operation == 1 {
+        take_check(second, numbers);
+        return;
+    }
+    take_term(operation, size(second), numbers);
+}
+
+fn answer_spread(operation: u64, second: u64, numbers: &[u64; ROOM], n: usize) {
+    if n > ROOM {
+        bad_line();
+        return;
+    }
+    let all = &numbers[..];
+    answer_numbers(operation, second, &all[0..n]);
+}
+
+// How far a line's numbers are written out: the next number to be read, and the count of those written. Where they cannot be, next is 0.
+struct Reached {
+    next: usize,
+    filled: usize,
+}
+
+fn stuck() -> Reached {
+    Reached { next: 0, filled: 0 }
+}
+
+// The place after one in a list of n that is taken over and over.
+fn after(place: usize, n: usize) -> usize {
+    if n == 0 {
+        return 0;
+    }
+    if place >= n - 1 {
+        return 0;
+    }
+    place + 1
+}
+
+fn value_at(values: &[u64], place: usize) -> u64 {
+    if place >= values.len() {
+        return 0;
+    }
+    values[place]
+}
+
+// The values over and over, from one entry to before another.
+fn repeat(values: &[u64], numbers: &mut [u64; ROOM], from: usize, to: usize) {
+    let n = values.len();
+    let mut place: usize = 0;
+    let mut i: usize = from;
+    while i < to {
+        if i >= ROOM {
+            return;
+        }
+        numbers[i] = value_at(values, place);
+        place = after(place, n);
+        i += 1;
+    }
+}
+
+// The short form that begins at a number of the line.
+fn spread_run(line: &[u64], at: usize, numbers: &mut [u64; ROOM], filled: usize) -> Reached {
+    let n = line.len();
+    if at >= n {
+        return stuck();
+    }
+    if n - at < 4 {
+        return stuck();
+    }
+    let count = size(line[at + 1]);
+    let k = size(line[at + 2]);
+    if k == 0 {
+        return stuck();
+    }
+    if k > n - at - 3 {
+        return stuck();
+    }
+    if filled > ROOM {
+        return stuck();
+    }
+    if count > ROOM - filled {
+        return stuck();
+    }
+    repeat(&line[at + 3..at + k + 3], numbers, filled, filled + count);
+    Reached {
+        next: at + k + 3,
+        filled: filled + count,
+    }
+}
+
+// A number of the line, or the short form that begins there.
+fn spread_one(line: &[u64], at: usize, numbers: &mut [u64; ROOM], filled: usize) -> Reached {
+    if at >= line.len() {
+        return stuck();
+    }
+    let v = line[at];
+    if v == 99999 {
+        return spread_run(line, at, numbers, filled);
+    }
+    if filled >= ROOM {
+        return stuck();
+    }
+    numbers[filled] = v;
+    Reached {
+        next: at + 1,
+        filled: filled + 1,
+    }
+}
+
+// All numbers of the line.
+fn spread(line: &[u64], numbers: &mut [u64; ROOM]) -> Reached {
+    let mut at: usize = 0;
+    let mut filled: usize = 0;
+    while at < line.len() {
+        let s = spread_one(line, at, numbers, filled);
+        if s.next <= at {
+            return stuck();
+        }
+        at = s.next;
+        filled = s.filled;
+    }
+    Reached {
+        next: 1,
+        filled: filled,
+    }
+}
+
+fn answer_line(line: Line, raw: &[u64]) {
     if !line.good {
         bad_line();
         return;
     }
     let filled = line.filled;
-    if filled > numbers.len() {
+    if filled < 2 {
         bad_line();
         return;
     }
-    answer_numbers(line.states, &numbers[0..filled]);
+    if filled > raw.len() {
+        bad_line();
+        return;
+    }
+    let mut numbers = [0u64; ROOM];
+    let s = spread(&raw[2..filled], &mut numbers);
+    if s.next == 0 {
+        bad_line();
+        return;
+    }
+    answer_spread(raw[0], raw[1], &numbers, s.filled);
 }
 
 // The bytes of one read. A line that ends among them is answered.
-fn feed_all(line: Line, numbers: &mut [u16; ROOM], bytes: &[u8]) -> Line {
+fn feed_all(line: Line, numbers: &mut [u64; ROOM], bytes: &[u8]) -> Line {
     let mut now_line = line;
     let mut i: usize = 0;
     while i < bytes.len() {
@@ -238,7 +621,7 @@ enum Turn {
 }
 
 // One read.
-fn take_turn(line: Line, numbers: &mut [u16; ROOM]) -> Turn {
+fn take_turn(line: Line, numbers: &mut [u64; ROOM]) -> Turn {
     let mut bytes = io::large_buffer();
     let got = libc::read(STDIN_FILENO, &mut bytes);
     if got <= 0 {
@@ -249,15 +632,15 @@ fn take_turn(line: Line, numbers: &mut [u16; ROOM]) -> Turn {
 }
 
 // The last line, where no byte 10 ends it. A line of no bytes is none.
-fn end(line: Line, numbers: &mut [u16; ROOM]) {
-    if line.good && !line.headed && !line.begun {
+fn end(line: Line, numbers: &mut [u64; ROOM]) {
+    if line.good && line.filled == 0 && !line.begun {
         return;
     }
     answer_line(line.closed(numbers), numbers);
 }
 
 fn main() {
-    let mut numbers = [0u16; ROOM];
+    let mut numbers = [0u64; ROOM];
     let mut line = empty_line();
     let mut turns = u64::MAX;
     while turns > 0 {

@@ -1,7 +1,7 @@
 -- The check of a table: it passes just where no ground of document 01 holds, and a table that passes is good.
 use Prim.Native.Nat.{ℕ, _-_, _≤_, _<_}
 use mathlib.Core.Path.{_≡_, ap, sym, _∙_}
-use mathlib.Core.Bool.{Bool, true, false, not, _||_}
+use mathlib.Core.Bool.{true, false, not, _||_}
 use mathlib.Core.List.{List, [], _∷_}
 use mathlib.Core.Logic.{_⊎_, inl, inr, _↔_}
 use native.Mathlib.Omega.{arith}
@@ -10,12 +10,12 @@ use native.Mathlib.Nat.{eq-or-lt-of-le, lt-of-not-le, pos-of-ne-zero}
 use lib.ListN.{length, getD}
 use lib.Dec.{eqb, ltb, leb}
 use borrow.Author.Tests.{ltb-true, ltb-false, leb-false, eqb-false, le-ltb, not-false}
-use Rattle.model.specs.Answers.{Outcome, result, refused}
-use Rattle.model.specs.Choice.{if_then_else_, firstFaulty, anyBelow}
+use Rattle.model.specs.Answers.{result, refused}
+use Rattle.model.specs.Choice.{anyBelow}
 use Rattle.model.specs.Table.{Row, Table, noRow, pack, countAt, rowStart, rowNumbered, howManyRows, rowsOf, rowIs, acceptingStates, tableOf, Whole}
 use Rattle.model.specs.Count.{count, total, longest}
 use Rattle.model.specs.Check.{allBelow, isState, cut, tooMany, outOfRange, notBelow, repeated, rowGround, acceptingGround, stateGround, checkWithin, countLimit, checkOutcome, Passes}
-use Rattle.model.proofs.Choice.{if-no, if-result, if-zero, or-false, and-true, not-both, no-fault, no-fault-back, Decided, clear, faulty, decided, any-false}
+use Rattle.model.proofs.Choice.{if-no, if-result, if-zero, or-false, and-true, not-both, no-fault, no-fault-back, any-false}
 use Rattle.model.proofs.Good.{AllBelow, below-none, below-cons, Once, once-few, Good, Within}
 use Rattle.model.proofs.Rows.{args-length, rowsOf-length, rowsOf-at, pack-rowsOf, rowIs-yes}
 
@@ -243,33 +243,3 @@ module _ (limit states : ℕ) (rows accepting : List ℕ) (g : NoGround limit st
       args i l =
           rw (rowsOf-at rows i noRow l)
           (omega (arith, args-length rows (rowStart rows i) (checked-row i l .whole), checked-row i l .few-args))
-
--- a refusal of the check is never numbered 0
-tested-positive : (b : Bool) (n place k p : ℕ) (o : Outcome) → 0 < n → (o ≡ refused k p → 0 < k) → (if b then refused n place else o) ≡ refused k p → 0 < k
-tested-positive true n place k p o pos next e = let z : n ≡ k = cc in omega arith
-tested-positive false n place k p o pos next e = next e
-
-faulty-positive : (n : ℕ) (g : ℕ → ℕ) (k p : ℕ) (o : Outcome) → (o ≡ refused k p → 0 < k) → firstFaulty n g o ≡ refused k p → 0 < k
-faulty-positive n g k p o next e = go (decided n g o)
-  where
-    go : Decided n g o (firstFaulty n g o) → 0 < k
-    go (clear all h) = next (sym h ∙ e)
-    go (faulty i l before pos h) =
-        let y = sym h ∙ e in
-        let z : g i ≡ k = cc in
-        omega arith
-
-result-positive : (t k p : ℕ) → result t ≡ refused k p → 0 < k
-result-positive t k p e = let z : _≡_ {A = ℕ} 0 1 = cc in absurd (omega arith)
-
-pub refused-positive : (limit states : ℕ) (rows accepting : List ℕ) (k p : ℕ) → checkWithin limit states rows accepting ≡ refused k p → 0 < k
-unfolding checkWithin
-refused-positive limit states rows accepting k p e =
-    let T = tableOf states rows accepting in
-    tested-positive (ltb 256 states) 1 0 k p _ (omega arith)
-    (faulty-positive (howManyRows rows) (rowGround states rows) k p _
-    (faulty-positive (length (acceptingStates accepting)) (acceptingGround states (acceptingStates accepting)) k p _
-    (tested-positive (ltb states (length (acceptingStates accepting))) 8 0 k p _ (omega arith)
-    (faulty-positive states (stateGround limit T) k p _
-    (tested-positive (ltb limit (total T)) 11 0 k p _ (omega arith) (result-positive (total T) k p))))))
-    e

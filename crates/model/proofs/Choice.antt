@@ -1,5 +1,5 @@
 -- Laws of choosing: by a test, by the first that is faulty, and of some number below another having a property.
-use Prim.Native.Nat.{ℕ, zero, suc, _<_}
+use Prim.Native.Nat.{ℕ, zero, suc, _+_, _<_, _≤_}
 use mathlib.Core.Path.{_≡_, refl, sym, _∙_}
 use mathlib.Core.Bool.{Bool, true, false, _&&_, _||_}
 use mathlib.Core.Logic.{_⊎_, inl, inr}
@@ -79,6 +79,14 @@ first-fault (suc n) i g o l h p = go (eq-or-lt-of-le (le-of-suc-le-suc l)) (λ m
     go : (i ≡ n) ⊎ (i < n) → (i < n → firstFaulty n g (refuseOn (g n) n o) ≡ refused (g i) i) → firstFaulty n g (refuseOn (g n) n o) ≡ refused (g i) i
     go (inl e) ih = rw (← e) (no-fault i g (refuseOn (g i) i o) h ∙ refuse-some (g i) i o p)
     go (inr m) ih = ih m
+
+-- no ground below i and none at i: none below i + 1
+pub none-more : (i : ℕ) (g : ℕ → ℕ) → ((j : ℕ) → j < i → g j ≡ 0) → g i ≡ 0 → (j : ℕ) → j < i + 1 → g j ≡ 0
+none-more i g h e j l = go (eq-or-lt-of-le (let le : j ≤ i = omega arith in le))
+  where
+    go : (j ≡ i) ⊎ (j < i) → g j ≡ 0
+    go (inl d) = rw d e
+    go (inr m) = h j m
 
 -- the first of n numbers that has a ground, or none has
 pub data First (n : ℕ) (g : ℕ → ℕ) : Type 0 where

@@ -7,8 +7,16 @@ pub mod Counting
 pub mod Rows
 pub mod Reaching
 pub mod Checked
+pub mod Positive
 pub mod Longest
 pub mod Passing
 pub mod Paper
 pub mod Serial
 pub mod States
+pub mod Entries
+pub mod Bytes
+pub mod Scan
+pub mod Names
+pub mod Listed
+pub mod Inverse
+pub mod TermExamples

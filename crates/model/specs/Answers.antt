@@ -1,5 +1,7 @@
 -- Answers, and document 01's number for each kind of refusal. Assumes nothing: these are definitions.
 use Prim.Native.Nat.{ℕ}
+use mathlib.Core.List.{List, _++_}
+use lib.ListN.{length, drop}
 use Rattle.model.specs.declared.Kind.{Kind}
 use Rattle.model.specs.declared.Kind.the-variants.{TooManyStates, CutRow, TooManyRowsOrArguments, NotInRange, ArgumentNotBelowTarget, RepeatedRow, AcceptingEntry, AcceptingTooLong, CountAboveLimit, LongestTreeAboveLimit, TotalAboveLimit, TreeTooLong, NotATree, NotAccepted, NumberNotBelowTotal, ShortTreeList, FaultyNames, TextTooLong, NotATerm, UnlistedName, TermTreeTooLong, ShortTermTree, UnnamedSymbol, ShortTextList}
 use Rattle.model.specs.declared.Answer.{Answer}
@@ -65,3 +67,9 @@ kindNumber ShortTextList = 24
 abbrev pub outcome : Answer → Outcome
 outcome (Result n) = result n
 outcome (Refused r) = refused (kindNumber (r .kind)) (r .place)
+
+-- "written at the front; later entries stay"; "written at the front; later bytes stay"; "A refusal writes to no lent list." A result n is
+-- the length of what is written (the laws `read-exactly` and `write-exactly`)
+abbrev pub lentAfter : Outcome → (written old : List ℕ) → List ℕ
+lentAfter (result n) written old = written ++ drop (length written) old
+lentAfter (refused number place) written old = old

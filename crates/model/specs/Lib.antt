@@ -8,3 +8,9 @@ pub mod Count
 pub mod Value
 pub mod Order
 pub mod Check
+pub mod Names
+pub mod Entries
+pub mod Term
+pub mod TermOperations
+pub mod Place
+pub mod Inverse

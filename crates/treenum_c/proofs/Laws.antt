@@ -1,14 +1,12 @@
 -- An answer as the two numbers that an exported function gives. Assumes nothing.
 use Prim.Native.Nat.{ℕ, _<_}
 use mathlib.Core.Path.{_≡_, refl, sym, ap, _∙_}
-use mathlib.Core.List.{List}
 use native.Mathlib.Omega.{arith}
 use Rattle.model.specs.declared.Answer.{Answer}
 use Rattle.model.specs.declared.Answer.the-variants.{Result, Refused}
 use Rattle.model.specs.declared.Refusal.{Refusal}
 use Rattle.model.specs.Answers.{Outcome, result, refused, outcome, kindNumber}
-use Rattle.model.specs.Check.{checkWithin, checkOutcome, countLimit}
-use Rattle.model.proofs.Checked.{refused-positive}
+use Rattle.model.proofs.Positive.{Positive}
 use Rattle.treenum_c.specs.Returned.{numberFor, valueFor, Returned}
 
 pub gave : {o : Outcome} {a : Answer} {n : ℕ} → outcome a ≡ o → a ≡ Result n → Returned o 0 n
@@ -21,14 +19,11 @@ turned-away e h k =
     let z = ap outcome (sym h) ∙ e in
     record { number-is = k ∙ ap numberFor z; value-is = ap valueFor z }
 
--- a caller who gets 0 has the result, and one who gets another number has the refusal of that number
-pub zero-result : (states : ℕ) (rows accepting : List ℕ) (v : ℕ) → Returned (checkOutcome states rows accepting) 0 v → checkOutcome states rows accepting ≡ result v
-unfolding checkOutcome
-zero-result states rows accepting v r = go (checkWithin countLimit states rows accepting) refl r
-  where
-    go : (o : Outcome) → checkWithin countLimit states rows accepting ≡ o → Returned o 0 v → o ≡ result v
-    go (result n) e x = ap result (sym (x .value-is))
-    go (refused k p) e x = absurd (omega (arith, refused-positive countLimit states rows accepting k p e, x .number-is))
+-- a caller who gets 0 has the result, where no refusal has the number 0 (of the operations: Rattle.model.proofs.Positive), and one who gets
+-- another number has the refusal of that number
+pub zero-result : (o : Outcome) → Positive o → (v : ℕ) → Returned o 0 v → o ≡ result v
+zero-result (result n) h v x = ap result (sym (x .value-is))
+zero-result (refused k p) h v x = absurd (omega (arith, h k p refl, x .number-is))
 
 pub other-refused : (o : Outcome) {k v : ℕ} → 0 < k → Returned o k v → o ≡ refused k v
 other-refused (result n) pos x = absurd (omega (arith, x .number-is))

@@ -1,7 +1,9 @@
 // The C interface: one exported function an operation (include/treenum.h).
 use model::Answer;
+ghost use lib.ListN.{length};
 ghost use Rattle.model.specs.Check.{checkOutcome};
-ghost use Rattle.treenum_c.specs.Returned.{Returned};
+ghost use Rattle.model.specs.TermOperations.{readTermOutcome, readTermList, writeTermOutcome, writeTermList};
+ghost use Rattle.treenum_c.specs.Returned.{Returned, Left};
 
 // Checks a table: returns 0 and puts the total, or returns the refusal's number and puts its place.
 #[no_mangle]
@@ -16,6 +18,54 @@ pub extern "C" fn treenum_check(
     match table::check(states, rows, accepting) {
         Answer::Result(total) => {
             *value = total;
+            0
+        }
+        Answer::Refused(r) => {
+            let kind = r.kind;
+            *value = r.place;
+            model::kind_number(kind)
+        }
+    }
+}
+
+// Reads a term: returns 0, puts the count of the tree's entries and leaves them at the front of the list; or returns the
+// refusal's number, puts its place and leaves the list as it was.
+#[no_mangle]
+pub extern "C" fn treenum_read_term(
+    names: &[u8],
+    text: &[u8],
+    tree: &mut [u16],
+    value: &mut u64,
+) -> u32
+    ensures { λ r. ⌜ Left (readTermOutcome (now (names .entry)) (now (text .entry)) (length (now (tree .entry)))) (readTermList (now (names .entry)) (now (text .entry)) (now (tree .entry))) r (now (value .exit)) (now (tree .exit)) ⌝ }
+{
+    match term::read_term(names, text, tree) {
+        Answer::Result(count) => {
+            *value = count;
+            0
+        }
+        Answer::Refused(r) => {
+            let kind = r.kind;
+            *value = r.place;
+            model::kind_number(kind)
+        }
+    }
+}
+
+// Writes a tree as a term: returns 0, puts the count of bytes and leaves them at the front of the list; or returns the
+// refusal's number, puts its place and leaves the list as it was.
+#[no_mangle]
+pub extern "C" fn treenum_write_term(
+    names: &[u8],
+    tree: &[u16],
+    text: &mut [u8],
+    value: &mut u64,
+) -> u32
+    ensures { λ r. ⌜ Left (writeTermOutcome (now (names .entry)) (now (tree .entry)) (length (now (text .entry)))) (writeTermList (now (names .entry)) (now (tree .entry)) (now (text .entry))) r (now (value .exit)) (now (text .exit)) ⌝ }
+{
+    match term::write_term(names, tree, text) {
+        Answer::Result(count) => {
+            *value = count;
             0
         }
         Answer::Refused(r) => {

@@ -1,0 +1,256 @@
+-- What reading and writing a term take, and that they are inverse on what both take.
+use Prim.Native.Nat.{ℕ, _≤_}
+use mathlib.Core.Path.{_≡_, refl, ap, sym, subst, _∙_}
+use mathlib.Core.List.{List, _++_}
+use native.Mathlib.Omega.{arith}
+use lib.ListN.{length, take, drop}
+use lib.Seq.{take-at}
+use lib.Dec.{ltb}
+use borrow.Author.Tests.{ltb-false, le-ltb}
+use Rattle.model.specs.Answers.{Outcome, result, lentAfter}
+use Rattle.model.specs.Tree.{Forest, Tree, empty, node, only, serial, SymbolsInRange, WellFormed}
+use Rattle.model.specs.Term.{Terms, Term, none, term, alone, textOf, AllNames, IsTerm, termFrom}
+use Rattle.model.specs.TermOperations.{symbolsOf, namesOf, treeOfTerm, termOfTree, AllListed, entriesOf, bytesOf, nameGround, readTermOutcome, symbolGround, writeTermOutcome, readTermList, writeTermList}
+use Rattle.model.specs.Inverse.{Writable, WriteTaken, Readable, ReadTaken, WrittenReads, ReadWrites}
+use Rattle.model.proofs.Choice.{if-no, if-result, no-fault, no-fault-back}
+use Rattle.model.proofs.Entries.{tree-from, tree-or-taken, tree-or-back}
+use Rattle.model.proofs.Scan.{term-from, term-text, term-or-taken, term-or-back}
+use Rattle.model.proofs.Names.{Sound, names-list, list-sound, names-taken, names-back, symbol-of-name, name-of-symbol, name-is}
+use Rattle.model.proofs.Listed.{AllNamed, listed-names, names-listed, low-named, named-low, symbol-low, low-symbol, text-bound}
+
+-- ---- names and symbols, there and back
+
+-- the names of symbols that have names are names
+pub named-names : (names : List ℕ) → Sound names → (f : Forest) → AllNamed names f → AllNames (namesOf names f)
+unfolding AllNamed AllNames namesOf
+named-names names h empty a = tt
+named-names names h (node s children right) a = (name-is names h s (a .0) (a .1), named-names names h children (a .2), named-names names h right (a .3))
+
+-- the names of symbols that have names are listed
+pub named-listed : (names : List ℕ) → Sound names → (f : Forest) → AllNamed names f → AllListed names (namesOf names f)
+unfolding AllNamed AllListed namesOf
+named-listed names h empty a = tt
+named-listed names h (node s children right) a =
+    (symbol-of-name names h s (a .0) (a .1) .1, named-listed names h children (a .2), named-listed names h right (a .3))
+
+-- symbols that have names are in range
+pub named-range : (names : List ℕ) → Sound names → (f : Forest) → AllNamed names f → SymbolsInRange f
+unfolding AllNamed SymbolsInRange
+named-range names h empty a = tt
+named-range names h (node s children right) a = (a .0, omega (arith, h .few, a .1), named-range names h children (a .2), named-range names h right (a .3))
+
+-- from symbols that have names to the names and back
+pub symbols-names : (names : List ℕ) → Sound names → (f : Forest) → AllNamed names f → symbolsOf names (namesOf names f) ≡ f
+unfolding AllNamed symbolsOf namesOf
+symbols-names names h empty a = refl
+symbols-names names h (node s children right) a =
+    λ i. node (symbol-of-name names h s (a .0) (a .1) .0 i) (symbols-names names h children (a .2) i) (symbols-names names h right (a .3) i)
+
+-- the symbols of listed names have names
+pub listed-named : (names : List ℕ) (f : Terms) → AllListed names f → AllNamed names (symbolsOf names f)
+unfolding AllNamed AllListed symbolsOf
+listed-named names none a = tt
+listed-named names (term n inner right) a =
+    let p = name-of-symbol names n (a .0) in
+    (p .1, p .2, listed-named names inner (a .1), listed-named names right (a .2))
+
+-- from listed names to the symbols and back
+pub names-symbols : (names : List ℕ) (f : Terms) → AllListed names f → namesOf names (symbolsOf names f) ≡ f
+unfolding AllListed symbolsOf namesOf
+names-symbols names none a = refl
+names-symbols names (term n inner right) a =
+    λ i. term (name-of-symbol names n (a .0) .0 i) (names-symbols names inner (a .1) i) (names-symbols names right (a .2) i)
+
+-- a tree, its term, and its tree again; a term, its tree, and its term again
+tree-term : (names : List ℕ) → Sound names → (t : Tree) → AllNamed names (only t) → treeOfTerm names (termOfTree names t) ≡ t
+unfolding AllNamed
+tree-term names h t a =
+    λ i. record { symbol = symbol-of-name names h (t .symbol) (a .0) (a .1) .0 i; children = symbols-names names h (t .children) (a .2) i }
+
+term-tree : (names : List ℕ) (t : Term) → AllListed names (alone t) → termOfTree names (treeOfTerm names t) ≡ t
+unfolding AllListed
+term-tree names t a = λ i. record { name = name-of-symbol names (t .name) (a .0) .0 i; inner = names-symbols names (t .inner) (a .1) i }
+
+-- ---- what writing takes
+
+result-is : {m n : ℕ} → result m ≡ result n → n ≡ m
+result-is e = cc
+
+-- what can be written is written where there is room for its bytes
+pub write-taken : (names tree : List ℕ) (room : ℕ) → Writable names tree → length (bytesOf names tree) ≤ room
+    → writeTermOutcome names tree room ≡ result (length (bytesOf names tree))
+unfolding writeTermOutcome
+write-taken names tree room w l =
+    names-taken names (list-sound names (w .list)) _
+    ∙ tree-or-taken tree (w .well) (w .few) _
+    ∙ no-fault (length tree) (symbolGround names tree) _ (λ i m. low-symbol names tree i (w .named i m))
+    ∙ if-no (ltb room (length (bytesOf names tree))) _ _ (le-ltb room (length (bytesOf names tree)) l)
+
+-- only that is written, and the result is the count of its bytes, for which there is room
+pub write-back : (names tree : List ℕ) (room n : ℕ) → writeTermOutcome names tree room ≡ result n
+    → Writable names tree × (n ≡ length (bytesOf names tree)) × (n ≤ room)
+unfolding writeTermOutcome
+write-back names tree room n e =
+    let a = names-back names n _ e in
+    let b = tree-or-back tree n _ (a .1) in
+    let c = no-fault-back (length tree) n (symbolGround names tree) _ (b .2) in
+    let d = if-result (ltb room (length (bytesOf names tree))) 24 (length (bytesOf names tree)) n _ (c .1) in
+    let z : n ≡ length (bytesOf names tree) = result-is (d .1) in (
+      record { list = names-list names (a .0); few = b .1; well = b .0; named = λ i l. symbol-low names tree i (c .0 i l) },
+      z,
+      omega (arith, ltb-false room (length (bytesOf names tree)) (d .0)),
+    )
+
+pub write-exactly : WriteTaken
+write-exactly names tree room n =
+    (write-back names tree room n, λ p. write-taken names tree room (p .0) (omega (arith, p .1, p .2)) ∙ ap result (sym (p .1)))
+
+-- ---- what reading takes
+
+-- what can be read is read where there is room for its entries
+pub read-taken : (names text : List ℕ) (room : ℕ) → Readable names text → length (entriesOf names text) ≤ room
+    → readTermOutcome names text room ≡ result (length (entriesOf names text))
+unfolding readTermOutcome
+read-taken names text room r l =
+    names-taken names (list-sound names (r .list)) _
+    ∙ if-no (ltb 65536 (length text)) _ _ (le-ltb 65536 (length text) (r .short))
+    ∙ term-or-taken text (r .well) _
+    ∙ no-fault (length text) (nameGround names text) _ (names-listed names text (r .well) (r .listed))
+    ∙ if-no (ltb 4096 (length (entriesOf names text))) _ _ (le-ltb 4096 (length (entriesOf names text)) (r .few))
+    ∙ if-no (ltb room (length (entriesOf names text))) _ _ (le-ltb room (length (entriesOf names text)) l)
+
+-- only that is read, and the result is the count of its entries, for which there is room
+pub read-back : (names text : List ℕ) (room n : ℕ) → readTermOutcome names text room ≡ result n
+    → Readable names text × (n ≡ length (entriesOf names text)) × (n ≤ room)
+unfolding readTermOutcome
+read-back names text room n e =
+    let needed = length (entriesOf names text) in
+    let a = names-back names n _ e in
+    let b = if-result (ltb 65536 (length text)) 18 0 n _ (a .1) in
+    let c = term-or-back text n _ (b .1) in
+    let d = no-fault-back (length text) n (nameGround names text) _ (c .1) in
+    let f = if-result (ltb 4096 needed) 21 0 n _ (d .1) in
+    let g = if-result (ltb room needed) 22 needed n _ (f .1) in
+    let z : n ≡ needed = result-is (g .1) in (
+      record {
+        list = names-list names (a .0);
+        short = ltb-false 65536 (length text) (b .0);
+        well = c .0;
+        listed = listed-names names text (c .0) (d .0);
+        few = ltb-false 4096 needed (f .0);
+      },
+      z,
+      omega (arith, ltb-false room needed (g .0)),
+    )
+
+pub read-exactly : ReadTaken
+read-exactly names text room n =
+    (read-back names text room n, λ p. read-taken names text room (p .0) (omega (arith, p .1, p .2)) ∙ ap result (sym (p .1)))
+
+-- ---- the lent list after a result
+
+lent-all : (o : Outcome) (n : ℕ) (written old : List ℕ) → o ≡ result n → lentAfter o written old ≡ written ++ drop (length written) old
+lent-all o n written old e = rw e
+
+lent-front : (o : Outcome) (n : ℕ) (written old : List ℕ) → o ≡ result n → n ≡ length written → take n (lentAfter o written old) ≡ written
+lent-front o n written old e l = ap (take n) (lent-all o n written old e) ∙ take-at written (drop (length written) old) n (sym l)
+
+-- ---- a written tree is read
+
+module _ (names tree : List ℕ) (w : Writable names tree) where
+  sound-names : Sound names
+  sound-names = list-sound names (w .list)
+
+  tree-named : AllNamed names (only (w .well .tree))
+  tree-named = low-named names tree (w .well) (w .named)
+
+  written-text : IsTerm (bytesOf names tree)
+  unfolding bytesOf namesOf
+  written-text =
+      record {
+        is = termOfTree names (w .well .tree);
+        names = named-names names sound-names (only (w .well .tree)) tree-named;
+        written = ap (λ (t : Tree). textOf (termOfTree names t)) (sym (tree-from tree (w .well)));
+      }
+
+  written-entries : entriesOf names (bytesOf names tree) ≡ tree
+  unfolding entriesOf written-text
+  written-entries =
+      ap (λ (t : Term). serial (treeOfTerm names t)) (term-from (bytesOf names tree) written-text)
+      ∙ ap serial (tree-term names sound-names (w .well .tree) tree-named)
+      ∙ w .well .written
+
+  written-read : Readable names (bytesOf names tree)
+  unfolding namesOf written-text
+  written-read =
+      record {
+        list = w .list;
+        short = omega (
+          arith,
+          ap length (written-text .written),
+          ap length (w .well .written),
+          w .few,
+          text-bound names sound-names (w .well .tree) tree-named,
+        );
+        well = written-text;
+        listed = named-listed names sound-names (only (w .well .tree)) tree-named;
+        few = rw written-entries (w .few);
+      }
+
+-- reading a written term gives back the tree
+pub written-reads : WrittenReads
+unfolding writeTermList readTermList
+written-reads names tree text n e lent l =
+    let p = write-back names tree (length text) n e in
+    let bytes = bytesOf names tree in
+    let same = written-entries names tree (p .0) in
+    let r = read-taken names bytes (length lent) (written-read names tree (p .0)) (rw same l) in
+    subst (λ (x : List ℕ). (readTermOutcome names x (length lent) ≡ result (length tree)) × (readTermList names x lent ≡ tree ++ drop (length tree) lent))
+    (sym (lent-front (writeTermOutcome names tree (length text)) n bytes text e (p .1))) (
+      r ∙ ap (λ (x : List ℕ). result (length x)) same,
+      lent-all (readTermOutcome names bytes (length lent)) _ (entriesOf names bytes) lent r ∙ ap (λ (x : List ℕ). x ++ drop (length x) lent) same,
+    )
+
+-- ---- a read term is written
+
+module _ (names text : List ℕ) (r : Readable names text) where
+  read-listed : AllListed names (alone (termFrom text))
+  read-listed = subst (λ (t : Term). AllListed names (alone t)) (sym (term-from text (r .well))) (r .listed)
+
+  read-named : AllNamed names (only (treeOfTerm names (termFrom text)))
+  unfolding symbolsOf
+  read-named = listed-named names (alone (termFrom text)) read-listed
+
+  read-tree : WellFormed (entriesOf names text)
+  unfolding entriesOf
+  read-tree =
+      record {
+        tree = treeOfTerm names (termFrom text);
+        symbols = named-range names (list-sound names (r .list)) (only (treeOfTerm names (termFrom text))) read-named;
+        written = refl;
+      }
+
+  read-bytes : bytesOf names (entriesOf names text) ≡ text
+  unfolding bytesOf read-tree
+  read-bytes =
+      ap (λ (t : Tree). textOf (termOfTree names t)) (tree-from (entriesOf names text) read-tree)
+      ∙ ap textOf (term-tree names (termFrom text) read-listed)
+      ∙ term-text text (r .well)
+
+  read-written : Writable names (entriesOf names text)
+  unfolding read-tree
+  read-written = record { list = r .list; few = r .few; well = read-tree; named = named-low names (entriesOf names text) read-tree read-named }
+
+-- writing a read term gives back the text
+pub read-writes : ReadWrites
+unfolding writeTermList readTermList
+read-writes names text tree n e lent l =
+    let p = read-back names text (length tree) n e in
+    let entries = entriesOf names text in
+    let same = read-bytes names text (p .0) in
+    let w = write-taken names entries (length lent) (read-written names text (p .0)) (rw same l) in
+    subst (λ (x : List ℕ). (writeTermOutcome names x (length lent) ≡ result (length text)) × (writeTermList names x lent ≡ text ++ drop (length text) lent))
+    (sym (lent-front (readTermOutcome names text (length tree)) n entries tree e (p .1))) (
+      w ∙ ap (λ (x : List ℕ). result (length x)) same,
+      lent-all (writeTermOutcome names entries (length lent)) _ (bytesOf names entries) lent w ∙ ap (λ (x : List ℕ). x ++ drop (length x) lent) same,
+    )

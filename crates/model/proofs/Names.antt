@@ -1,0 +1,258 @@
+-- Laws of names lists: which are taken, the names in them, and symbols and names there and back. When two names are equal is used only
+-- through `same-refl` and `same-is`.
+use Prim.Native.Nat.{ℕ, zero, suc, _+_, _-_, _≤_, _<_}
+use mathlib.Core.Path.{_≡_, refl, ap, sym, _∙_}
+use mathlib.Core.Bool.{Bool, true, false, not, _||_}
+use mathlib.Core.List.{List, [], _∷_, _++_, map}
+use mathlib.Core.Logic.{_↔_}
+use native.Mathlib.Omega.{arith}
+use native.Mathlib.Nat.{not-suc-le-zero, le-of-suc-le-suc}
+use lib.ListN.{length, getD, length-map, List·getD-map}
+use lib.Dec.{eqb, leb}
+use borrow.Author.Tests.{eqb-true, ltb-true, lt-ltb, leb-false, lt-leb, eqb-false, ne-eqb, not-false}
+use Rattle.model.specs.Answers.{Outcome, result, refused}
+use Rattle.model.specs.Choice.{if_then_else_, anyBelow}
+use Rattle.model.specs.Names.{allNameBytes, isName, sameName, bytesOfNames, IsNamesList, Line, joined, linesOf, noLine, lineAt, howManyNames, nameOf, lineWith, symbolOf, isListed, lineGround, namesOr}
+use Rattle.model.proofs.Choice.{if-no, if-result, if-zero, or-false, not-both, no-fault, no-fault-back, any-false, any-none}
+use Rattle.model.proofs.Rows.{sameList-refl, sameList-true}
+use Rattle.model.proofs.Counting.{getD-map}
+use Rattle.model.proofs.Bytes.{byte-not-ten, byte-first, byte-others, name-bytes}
+
+-- ---- when two names are equal
+
+-- a name is equal to itself
+pub same-refl : (a : List ℕ) → sameName a a ≡ true
+unfolding sameName
+same-refl a = sameList-refl a
+
+-- equal names are the same bytes
+pub same-is : (a b : List ℕ) → sameName a b ≡ true → a ≡ b
+unfolding sameName
+same-is a b e = sameList-true a b e
+
+-- ---- the lists that are taken
+
+-- "1 to 255 names, each followed by byte 10"; "No name stands twice."
+pub record Sound (names : List ℕ) : Type 0 where
+  pub some : 0 < howManyNames names
+  pub few : howManyNames names ≤ 255
+  pub line-name : (k : ℕ) → k < howManyNames names → isName (lineAt names k .bytes) ≡ true
+  pub line-ended : (k : ℕ) → k < howManyNames names → lineAt names k .ended ≡ true
+  pub apart : (j k : ℕ) → j < k → k < howManyNames names → sameName (lineAt names j .bytes) (lineAt names k .bytes) ≡ false
+
+-- a list is empty just where it has no line
+pub no-lines : (names : List ℕ) → 0 < length (linesOf names) → length names ≡ 0 → ⊥
+unfolding linesOf
+no-lines [] l e = not-suc-le-zero l
+no-lines (b ∷ bs) l e = omega arith
+
+pub some-lines : (names : List ℕ) → (length names ≡ 0 → ⊥) → 0 < length (linesOf names)
+unfolding linesOf
+some-lines [] h = absurd (h refl)
+some-lines (b ∷ bs) h = go (eqb b 10) (linesOf bs)
+  where
+    go : (t : Bool) (ls : List Line) → 0 < length (if t then record { bytes = []; ended = true } ∷ ls else joined b ls)
+    go true ls = omega arith
+    go false [] = omega arith
+    go false (l ∷ ls) = omega arith
+
+line-clear : (names : List ℕ) → Sound names → (k : ℕ) → k < howManyNames names → lineGround names k ≡ 0
+unfolding lineGround
+line-clear names s k l =
+    rw (
+      s .line-name k l,
+      any-none k (λ j. sameName (lineAt names j .bytes) (lineAt names k .bytes)) (λ j m. s .apart j k m l),
+      lt-leb 255 k (omega (arith, s .few)),
+      s .line-ended k l,
+    )
+
+-- what a line without a ground is
+record SoundLine (names : List ℕ) (k : ℕ) : Type 0 where
+  name : isName (lineAt names k .bytes) ≡ true
+  apart : (j : ℕ) → j < k → sameName (lineAt names j .bytes) (lineAt names k .bytes) ≡ false
+  few : k < 255
+  ended : lineAt names k .ended ≡ true
+
+clear-line : (names : List ℕ) (k : ℕ) → lineGround names k ≡ 0 → SoundLine names k
+unfolding lineGround
+clear-line names k e =
+    let equal : ℕ → Bool = λ j. sameName (lineAt names j .bytes) (lineAt names k .bytes) in
+    let p = if-zero (not (isName (lineAt names k .bytes)) || anyBelow k equal || leb 255 k || not (lineAt names k .ended)) 16 0 e in
+    let q = or-false (not (isName (lineAt names k .bytes)) || anyBelow k equal || leb 255 k) (not (lineAt names k .ended)) (p .0) in
+    let r = or-false (not (isName (lineAt names k .bytes)) || anyBelow k equal) (leb 255 k) (q .0) in
+    let t = or-false (not (isName (lineAt names k .bytes))) (anyBelow k equal) (r .0) in
+    record {
+      name = not-false (isName (lineAt names k .bytes)) (t .0);
+      apart = any-false k equal (t .1);
+      few = leb-false 255 k (r .1);
+      ended = not-false (lineAt names k .ended) (q .1);
+    }
+
+-- a sound list is taken
+pub names-taken : (names : List ℕ) → Sound names → (o : Outcome) → namesOr names o ≡ o
+unfolding namesOr
+names-taken names s o =
+    if-no (eqb (length names) 0) (refused 17 0) _ (ne-eqb (length names) 0 (no-lines names (s .some)))
+    ∙ no-fault (howManyNames names) (lineGround names) o (line-clear names s)
+
+-- a list that is taken is sound
+pub names-back : (names : List ℕ) (t : ℕ) (o : Outcome) → namesOr names o ≡ result t → Sound names × (o ≡ result t)
+unfolding namesOr
+names-back names t o e =
+    let p = if-result (eqb (length names) 0) 17 0 t _ e in
+    let q = no-fault-back (howManyNames names) t (lineGround names) o (p .1) in
+    let some : 0 < howManyNames names = some-lines names (eqb-false (length names) 0 (p .0)) in
+    let line : (k : ℕ) → k < howManyNames names → SoundLine names k = λ k l. clear-line names k (q .0 k l) in (
+      record {
+        some = some;
+        few = omega (arith, line (howManyNames names - 1) (omega arith) .few);
+        line-name = λ k l. line k l .name;
+        line-ended = λ k l. line k l .ended;
+        apart = λ j k m l. line k l .apart j m;
+      },
+      q .1,
+    )
+
+-- ---- a list is sound exactly if it is a names list
+
+-- the line that a name is, with byte 10 after it
+abbrev lineOf : List ℕ → Line
+lineOf n = record { bytes = n; ended = true }
+
+-- name bytes before byte 10 are the first line
+pub first-ended : (n ys : List ℕ) → allNameBytes n ≡ true → linesOf (n ++ 10 ∷ ys) ≡ record { bytes = n; ended = true } ∷ linesOf ys
+unfolding linesOf
+first-ended [] ys e = refl
+first-ended (b ∷ n) ys e = rw (byte-not-ten b (byte-first b n e), first-ended n ys (byte-others b n e))
+
+lines-written : (ns : List (List ℕ)) → ((k : ℕ) → k < length ns → isName (getD ns k []) ≡ true) → linesOf (bytesOfNames ns) ≡ map lineOf ns
+unfolding linesOf bytesOfNames
+lines-written [] h = refl
+lines-written (n ∷ ns) h =
+    first-ended n (bytesOfNames ns) (name-bytes n (h 0 (omega arith)))
+    ∙ ap (λ (ls : List Line). lineOf n ∷ ls) (lines-written ns (λ k l. h (suc k) (omega arith)))
+
+module _ (names : List ℕ) (w : IsNamesList names) where
+  lines-are : linesOf names ≡ map lineOf (w .lines)
+  lines-are = ap linesOf (sym (w .written)) ∙ lines-written (w .lines) (w .named)
+
+  -- its names are its lines in order: so it is a names list in one way
+  pub list-lines : w .lines ≡ map (λ (l : Line). l .bytes) (linesOf names)
+  list-lines = sym (ap (map (λ (l : Line). l .bytes)) lines-are ∙ same (w .lines))
+    where
+      same : (ns : List (List ℕ)) → map (λ (l : Line). l .bytes) (map lineOf ns) ≡ ns
+      same [] = refl
+      same (n ∷ ns) = ap (λ (x : List (List ℕ)). n ∷ x) (same ns)
+
+  pub list-count : howManyNames names ≡ length (w .lines)
+  list-count = ap length lines-are ∙ length-map (w .lines) lineOf
+
+  line-is : (k : ℕ) → k < length (w .lines) → lineAt names k ≡ lineOf (getD (w .lines) k [])
+  line-is k l = ap (λ (ls : List Line). getD ls k noLine) lines-are ∙ getD-map lineOf (w .lines) k [] noLine l
+
+  -- "Line k (from 0) names symbol k + 1."
+  pub list-name : (k : ℕ) → k < length (w .lines) → nameOf names (k + 1) ≡ getD (w .lines) k []
+  unfolding nameOf
+  list-name k l = let e : k + 1 - 1 ≡ k = omega arith in ap (λ (i : ℕ). lineAt names i .bytes) e ∙ ap (λ (x : Line). x .bytes) (line-is k l)
+
+  -- a names list is sound
+  pub list-sound : Sound names
+  list-sound =
+      let within : (k : ℕ) → k < howManyNames names → k < length (w .lines) = λ k l. rw list-count at l in
+      record {
+        some = rw list-count (w .some);
+        few = rw list-count (w .few);
+        line-name = λ k l. rw (line-is k (within k l)) (w .named k (within k l));
+        line-ended = λ k l. rw (line-is k (within k l));
+        apart = λ j k m l. rw (line-is j (omega (arith, within k l)), line-is k (within k l)) (w .apart j k m (within k l));
+      }
+
+-- lines that have byte 10 after them, written
+written-lines : (names : List ℕ) → ((k : ℕ) → k < howManyNames names → lineAt names k .ended ≡ true)
+    → bytesOfNames (map (λ (l : Line). l .bytes) (linesOf names)) ≡ names
+unfolding linesOf bytesOfNames
+written-lines [] h = refl
+written-lines (b ∷ bs) h = go (eqb b 10) (eqb-true b 10) (linesOf bs) h (written-lines bs)
+  where
+    go : (t : Bool) → (t ≡ true → b ≡ 10) → (ls : List Line)
+        → ((k : ℕ) → k < length (if t then lineOf [] ∷ ls else joined b ls) → getD (if t then lineOf [] ∷ ls else joined b ls) k noLine .ended ≡ true)
+        → (((k : ℕ) → k < length ls → getD ls k noLine .ended ≡ true) → bytesOfNames (map (λ (l : Line). l .bytes) ls) ≡ bs)
+        → bytesOfNames (map (λ (l : Line). l .bytes) (if t then lineOf [] ∷ ls else joined b ls)) ≡ b ∷ bs
+    go true e ls h ih = rw (e refl, ih (λ k l. h (suc k) (omega arith)))
+    go false e [] h ih = absurd (not-both false (h 0 (omega arith)) refl)
+    go false e (x ∷ ls) h ih = ap (λ (l : List ℕ). b ∷ l) (ih on)
+      where
+        on : (k : ℕ) → k < suc (length ls) → getD (x ∷ ls) k noLine .ended ≡ true
+        on zero l = h 0 (omega arith)
+        on (suc k) l = h (suc k) l
+
+-- a sound list is a names list
+pub names-list : (names : List ℕ) → Sound names → IsNamesList names
+names-list names s =
+    let bytes : Line → List ℕ = λ l. l .bytes in
+    let count = length-map (linesOf names) bytes in
+    let name : (k : ℕ) → getD (map bytes (linesOf names)) k [] ≡ lineAt names k .bytes = λ k. List·getD-map bytes (linesOf names) k noLine in
+    record {
+      lines = map bytes (linesOf names);
+      some = rw count (s .some);
+      few = rw count (s .few);
+      named = λ k l. rw (name k) (s .line-name k (rw count at l));
+      apart = λ j k m l. rw (name j, name k) (s .apart j k m (rw count at l));
+      written = written-lines names (s .line-ended);
+    }
+
+-- 17 is refused exactly where it is no names list
+pub names-exactly : (names : List ℕ) → IsNamesList names ↔ ((o : Outcome) → namesOr names o ≡ o)
+names-exactly names =
+    (λ w. names-taken names (list-sound names w), λ h. names-list names (names-back names 0 (result 0) (h (result 0)) .0))
+
+-- ---- symbols and names
+
+-- the first line with the name
+pub line-first : (ls : List Line) (n : List ℕ) (k : ℕ) → k < length ls → sameName (getD ls k noLine .bytes) n ≡ true
+    → ((j : ℕ) → j < k → sameName (getD ls j noLine .bytes) n ≡ false) → lineWith ls n ≡ k
+unfolding lineWith
+line-first [] n k l e h = absurd (not-suc-le-zero l)
+line-first (x ∷ ls) n zero l e h = rw e
+line-first (x ∷ ls) n (suc k) l e h = rw (h 0 (omega arith)) (ap suc (line-first ls n k (le-of-suc-le-suc l) e (λ j m. h (suc j) (omega arith))))
+
+-- no line has the name
+pub line-none : (ls : List Line) (n : List ℕ) → ((k : ℕ) → k < length ls → sameName (getD ls k noLine .bytes) n ≡ false) → lineWith ls n ≡ length ls
+unfolding lineWith
+line-none [] n h = refl
+line-none (x ∷ ls) n h = rw (h 0 (omega arith)) (ap suc (line-none ls n (λ k l. h (suc k) (omega arith))))
+
+line-found : (ls : List Line) (n : List ℕ) → lineWith ls n < length ls → sameName (getD ls (lineWith ls n) noLine .bytes) n ≡ true
+unfolding lineWith
+line-found [] n l = absurd (not-suc-le-zero l)
+line-found (x ∷ ls) n l = go (sameName (x .bytes) n) refl l (line-found ls n)
+  where
+    go : (t : Bool) → sameName (x .bytes) n ≡ t → (if t then 0 else suc (lineWith ls n)) < suc (length ls)
+        → (lineWith ls n < length ls → sameName (getD ls (lineWith ls n) noLine .bytes) n ≡ true)
+        → sameName (getD (x ∷ ls) (if t then 0 else suc (lineWith ls n)) noLine .bytes) n ≡ true
+    go true e m ih = e
+    go false e m ih = ih (le-of-suc-le-suc m)
+
+-- a symbol's name is listed, and has that symbol
+pub symbol-of-name : (names : List ℕ) → Sound names → (s : ℕ) → 1 ≤ s → s ≤ howManyNames names
+    → (symbolOf names (nameOf names s) ≡ s) × (isListed names (nameOf names s) ≡ true)
+unfolding symbolOf nameOf isListed
+symbol-of-name names h s l m =
+    let k : s - 1 < howManyNames names = omega arith in
+    let e : lineWith (linesOf names) (lineAt names (s - 1) .bytes) ≡ s - 1 =
+    line-first (linesOf names) _ (s - 1) k (same-refl (lineAt names (s - 1) .bytes)) (λ j i. h .apart j (s - 1) i k) in
+    (omega arith, lt-ltb (lineWith (linesOf names) (lineAt names (s - 1) .bytes)) (howManyNames names) (omega arith))
+
+-- a listed name has a symbol, and is its name
+pub name-of-symbol : (names n : List ℕ) → isListed names n ≡ true
+    → (nameOf names (symbolOf names n) ≡ n) × (1 ≤ symbolOf names n) × (symbolOf names n ≤ howManyNames names)
+unfolding symbolOf nameOf isListed
+name-of-symbol names n e =
+    let l : lineWith (linesOf names) n < howManyNames names = ltb-true (lineWith (linesOf names) n) (howManyNames names) e in
+    let k : suc (lineWith (linesOf names) n) - 1 ≡ lineWith (linesOf names) n = omega arith in
+    (ap (λ (i : ℕ). lineAt names i .bytes) k ∙ same-is _ n (line-found (linesOf names) n l), omega arith, omega arith)
+
+-- the name of a symbol is one
+pub name-is : (names : List ℕ) → Sound names → (s : ℕ) → 1 ≤ s → s ≤ howManyNames names → isName (nameOf names s) ≡ true
+unfolding nameOf
+name-is names h s l m = h .line-name (s - 1) (omega arith)

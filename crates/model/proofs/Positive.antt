@@ -1,0 +1,92 @@
+-- No refusal has the number 0: a caller who gets 0 has a result.
+use Prim.Native.Nat.{ℕ, _<_}
+use mathlib.Core.Path.{_≡_, sym, _∙_}
+use mathlib.Core.Bool.{Bool, true, false}
+use mathlib.Core.List.{List}
+use native.Mathlib.Omega.{arith}
+use lib.ListN.{length}
+use lib.Dec.{eqb, ltb}
+use Rattle.model.specs.Answers.{Outcome, result, refused}
+use Rattle.model.specs.Choice.{if_then_else_, firstFaulty}
+use Rattle.model.specs.Table.{tableOf, howManyRows, acceptingStates}
+use Rattle.model.specs.Count.{total}
+use Rattle.model.specs.Check.{rowGround, acceptingGround, stateGround, checkWithin, checkOutcome, countLimit}
+use Rattle.model.specs.Names.{howManyNames, lineGround, namesOr}
+use Rattle.model.specs.Entries.{entryGround, endsTooSoon, formOr, treeOr}
+use Rattle.model.specs.Term.{Scan, passes, breaksAt, breakOr, scan, due, termOr}
+use Rattle.model.specs.TermOperations.{entriesOf, bytesOf, nameGround, symbolGround, readTermOutcome, writeTermOutcome}
+use Rattle.model.proofs.Choice.{Decided, clear, faulty, decided}
+
+-- where the outcome is a refusal, its number is not 0
+abbrev pub Positive : Outcome → Type 0
+Positive o = (k p : ℕ) → o ≡ refused k p → 0 < k
+
+pub positive-result : (n : ℕ) → Positive (result n)
+positive-result n k p e = let z : _≡_ {A = ℕ} 0 1 = cc in absurd (omega arith)
+
+pub positive-refused : (m q : ℕ) → 0 < m → Positive (refused m q)
+positive-refused m q pos k p e = let z : m ≡ k = cc in omega arith
+
+pub positive-if : (b : Bool) (m q : ℕ) (o : Outcome) → 0 < m → Positive o → Positive (if b then refused m q else o)
+positive-if true m q o pos h = positive-refused m q pos
+positive-if false m q o pos h = h
+
+pub positive-first : (n : ℕ) (g : ℕ → ℕ) (o : Outcome) → Positive o → Positive (firstFaulty n g o)
+positive-first n g o h k p e = go (decided n g o)
+  where
+    go : Decided n g o (firstFaulty n g o) → 0 < k
+    go (clear all d) = h k p (sym d ∙ e)
+    go (faulty i l before pos d) =
+        let y = sym d ∙ e in
+        let z : g i ≡ k = cc in
+        omega arith
+
+-- the check
+pub check-positive : (states : ℕ) (rows accepting : List ℕ) → Positive (checkOutcome states rows accepting)
+unfolding checkOutcome checkWithin
+check-positive states rows accepting =
+    let T = tableOf states rows accepting in
+    positive-if (ltb 256 states) 1 0 _ (omega arith)
+    (positive-first (howManyRows rows) (rowGround states rows) _
+    (positive-first (length (acceptingStates accepting)) (acceptingGround states (acceptingStates accepting)) _
+    (positive-if (ltb states (length (acceptingStates accepting))) 8 0 _ (omega arith)
+    (positive-first states (stateGround countLimit T) _
+    (positive-if (ltb countLimit (total T)) 11 0 _ (omega arith) (positive-result (total T)))))))
+
+-- names lists, trees and terms, and what follows
+pub names-positive : (names : List ℕ) (o : Outcome) → Positive o → Positive (namesOr names o)
+unfolding namesOr
+names-positive names o h = positive-if (eqb (length names) 0) 17 0 _ (omega arith) (positive-first (howManyNames names) (lineGround names) o h)
+
+pub tree-positive : (entries : List ℕ) (o : Outcome) → Positive o → Positive (treeOr entries o)
+unfolding treeOr formOr
+tree-positive entries o h =
+    positive-if (ltb 4096 (length entries)) 12 0 _ (omega arith)
+    (positive-first (length entries) (entryGround entries) _ (positive-if (endsTooSoon entries) 13 (length entries) o (omega arith) h))
+
+term-positive : (text : List ℕ) (o : Outcome) → Positive o → Positive (termOr text o)
+unfolding termOr
+term-positive text o h = go (scan (due 0) 0 text)
+  where
+    go : (s : Scan) → Positive (breakOr s o)
+    go passes = h
+    go (breaksAt place) = positive-refused 19 place (omega arith)
+
+-- reading and writing a term
+pub read-positive : (names text : List ℕ) (room : ℕ) → Positive (readTermOutcome names text room)
+unfolding readTermOutcome
+read-positive names text room =
+    let needed = length (entriesOf names text) in
+    names-positive names _
+    (positive-if (ltb 65536 (length text)) 18 0 _ (omega arith)
+    (term-positive text _
+    (positive-first (length text) (nameGround names text) _
+    (positive-if (ltb 4096 needed) 21 0 _ (omega arith) (positive-if (ltb room needed) 22 needed _ (omega arith) (positive-result needed))))))
+
+pub write-positive : (names tree : List ℕ) (room : ℕ) → Positive (writeTermOutcome names tree room)
+unfolding writeTermOutcome
+write-positive names tree room =
+    let needed = length (bytesOf names tree) in
+    names-positive names _
+    (tree-positive tree _
+    (positive-first (length tree) (symbolGround names tree) _ (positive-if (ltb room needed) 24 needed _ (omega arith) (positive-result needed))))

@@ -1,0 +1,54 @@
+-- What reading and writing a term take, and that they are inverse on what both take. Assumes nothing: these are definitions.
+use Prim.Native.Nat.{ℕ, _≤_, _<_}
+use mathlib.Core.Path.{_≡_}
+use mathlib.Core.Logic.{_↔_}
+use mathlib.Core.List.{List, _++_}
+use lib.ListN.{length, getD, take, drop}
+use Rattle.model.specs.Answers.{result}
+use Rattle.model.specs.Tree.{WellFormed}
+use Rattle.model.specs.Names.{IsNamesList, howManyNames}
+use Rattle.model.specs.Term.{alone, IsTerm}
+use Rattle.model.specs.TermOperations.{AllListed, entriesOf, bytesOf, readTermOutcome, writeTermOutcome, readTermList, writeTermList}
+
+-- what can be written: none of 17, 12, 13 and 23 holds (a bar, entry 0, is never above the count of names)
+pub record Writable (names tree : List ℕ) : Type 0 where
+  pub list : IsNamesList names
+  pub few : length tree ≤ 4096
+  pub well : WellFormed tree
+  pub named : (i : ℕ) → i < length tree → getD tree i 0 ≤ howManyNames names
+
+-- writing a term answers a result exactly where it can be written and its bytes fit: how many they are
+abbrev pub WriteTaken : Type 0
+WriteTaken =
+    (names tree : List ℕ) (room n : ℕ) → (writeTermOutcome names tree room ≡ result n)
+    ↔ (Writable names tree × (n ≡ length (bytesOf names tree)) × (n ≤ room))
+
+-- what can be read: none of 17, 18, 19, 20 and 21 holds
+pub record Readable (names text : List ℕ) : Type 0 where
+  pub list : IsNamesList names
+  pub short : length text ≤ 65536
+  pub well : IsTerm text
+  pub listed : AllListed names (alone (well .is))
+  pub few : length (entriesOf names text) ≤ 4096
+
+-- reading a term answers a result exactly where it can be read and its entries fit: how many they are
+abbrev pub ReadTaken : Type 0
+ReadTaken =
+    (names text : List ℕ) (room n : ℕ) → (readTermOutcome names text room ≡ result n)
+    ↔ (Readable names text × (n ≡ length (entriesOf names text)) × (n ≤ room))
+
+-- reading a written term gives back the tree, entry for entry, into any long enough list
+abbrev pub WrittenReads : Type 0
+WrittenReads =
+    (names tree text : List ℕ) (n : ℕ) → writeTermOutcome names tree (length text) ≡ result n
+    → (lent : List ℕ) → length tree ≤ length lent
+    → (readTermOutcome names (take n (writeTermList names tree text)) (length lent) ≡ result (length tree))
+    × (readTermList names (take n (writeTermList names tree text)) lent ≡ tree ++ drop (length tree) lent)
+
+-- writing a read term gives back the text, byte for byte, into any long enough list
+abbrev pub ReadWrites : Type 0
+ReadWrites =
+    (names text tree : List ℕ) (n : ℕ) → readTermOutcome names text (length tree) ≡ result n
+    → (lent : List ℕ) → length text ≤ length lent
+    → (writeTermOutcome names (take n (readTermList names text tree)) (length lent) ≡ result (length text))
+    × (writeTermList names (take n (readTermList names text tree)) lent ≡ text ++ drop (length text) lent)

@@ -1,0 +1,86 @@
+-- "Reading a term" and "Writing a term": the ordered choices of refusals, and what the lent list then holds. Assumes nothing: these are
+-- definitions.
+use Prim.Native.Nat.{ℕ}
+use mathlib.Core.Path.{_≡_}
+use mathlib.Core.Bool.{true, _&&_, not}
+use mathlib.Core.List.{List}
+use lib.ListN.{length, getD}
+use lib.Dec.{ltb}
+use Rattle.model.specs.Answers.{Outcome, result, refused, lentAfter}
+use Rattle.model.specs.Choice.{if_then_else_, firstFaulty}
+use Rattle.model.specs.Tree.{Forest, Tree, empty, node, serial}
+use Rattle.model.specs.Names.{nameOf, symbolOf, isListed, howManyNames, namesOr}
+use Rattle.model.specs.Entries.{treeOr, treeFrom}
+use Rattle.model.specs.Term.{Terms, Term, none, term, textOf, termOr, nameBegins, nameAt, termFrom}
+
+-- each name's symbol
+unfoldable pub symbolsOf : (names : List ℕ) → Terms → Forest
+symbolsOf names none = empty
+symbolsOf names (term n inner right) = node (symbolOf names n) (symbolsOf names inner) (symbolsOf names right)
+
+-- each symbol's name
+unfoldable pub namesOf : (names : List ℕ) → Forest → Terms
+namesOf names empty = none
+namesOf names (node s children right) = term (nameOf names s) (namesOf names children) (namesOf names right)
+
+abbrev pub treeOfTerm : (names : List ℕ) → Term → Tree
+treeOfTerm names t = record { symbol = symbolOf names (t .name); children = symbolsOf names (t .inner) }
+
+abbrev pub termOfTree : (names : List ℕ) → Tree → Term
+termOfTree names t = record { name = nameOf names (t .symbol); inner = namesOf names (t .children) }
+
+-- the entries of the tree that a term is
+unfoldable pub entriesOf : (names text : List ℕ) → List ℕ
+entriesOf names text = serial (treeOfTerm names (termFrom text))
+
+-- the bytes of the term that a tree is
+unfoldable pub bytesOf : (names tree : List ℕ) → List ℕ
+bytesOf names tree = textOf (termOfTree names (treeFrom tree))
+
+-- every name of the terms is listed
+unfoldable pub AllListed : (names : List ℕ) → Terms → Type 0
+AllListed names none = Unit
+AllListed names (term n inner right) = (isListed names n ≡ true) × AllListed names inner × AllListed names right
+
+-- "A name not listed is 20, at its first byte, the earliest such name."
+unfoldable pub nameGround : (names text : List ℕ) → ℕ → ℕ
+nameGround names text i = if nameBegins text i && not (isListed names (nameAt text i)) then 20 else 0
+
+-- "Reading a term gives the count of tree entries written at the front", into a list of so many entries
+unfoldable pub readTermOutcome : (names text : List ℕ) (room : ℕ) → Outcome
+readTermOutcome names text room =
+    let needed = length (entriesOf names text) in
+    -- "A names list against the rules above is 17"
+    namesOr names
+    -- "A text above 65,536 bytes is 18."
+    (if ltb 65536 (length text) then refused 18 0 else
+    -- "A text that is no term is 19"
+    termOr text
+    (firstFaulty (length text) (nameGround names text)
+    -- "A tree above 4,096 entries is 21."
+    (if ltb 4096 needed then refused 21 0 else
+    -- "A short lent list is 22, with the entries needed."
+    if ltb room needed then refused 22 needed else result needed)))
+
+-- "A symbol above the count of names is 23, at the first such entry."
+unfoldable pub symbolGround : (names tree : List ℕ) → ℕ → ℕ
+symbolGround names tree i = if ltb (howManyNames names) (getD tree i 0) then 23 else 0
+
+-- "Writing a term gives the count of bytes written at the front", into a list of so many bytes
+unfoldable pub writeTermOutcome : (names tree : List ℕ) (room : ℕ) → Outcome
+writeTermOutcome names tree room =
+    let needed = length (bytesOf names tree) in
+    -- "It refuses 17, then 12, then 13, as above."
+    namesOr names
+    (treeOr tree
+    (firstFaulty (length tree) (symbolGround names tree)
+    -- "A short lent list is 24, with the bytes needed."
+    (if ltb room needed then refused 24 needed else result needed)))
+
+-- what the lent tree list holds after reading a term
+unfoldable pub readTermList : (names text tree : List ℕ) → List ℕ
+readTermList names text tree = lentAfter (readTermOutcome names text (length tree)) (entriesOf names text) tree
+
+-- what the lent text list holds after writing a term
+unfoldable pub writeTermList : (names tree text : List ℕ) → List ℕ
+writeTermList names tree text = lentAfter (writeTermOutcome names tree (length text)) (bytesOf names tree) text

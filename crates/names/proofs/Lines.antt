@@ -1,0 +1,411 @@
+-- The lines of a names list, taken one after another. Assumes nothing.
+use Prim.Native.Nat.{ℕ, suc, _+_, _-_, _*_, _<_, _≤_}
+use mathlib.Core.Path.{_≡_, refl, sym, ap, _∙_}
+use mathlib.Core.Bool.{Bool, true, false, _&&_, _||_, not, or-true}
+use mathlib.Core.List.{List, [], _∷_, _++_, append-assoc, append-nil, head-eq-of-cons-eq, tail-eq-of-cons-eq}
+use native.Mathlib.Omega.{arith}
+use native.Mathlib.Nat.{pos-of-ne-zero}
+use lib.ListN.{length, getD, set, take, drop, length-append, length-drop, length-set, drop-of-length-le}
+use lib.Seq.{drop-drop, drop-at, take-at, drop-cons, getD-drop, getD-set-same, getD-set-other}
+use lib.Dec.{eqb, ltb, leb}
+use borrow.Author.Tests.{eqb-true, ltb-true, lt-ltb, le-ltb, ltb-false, le-leb, lt-leb, eq-eqb, ne-eqb}
+use Rattle.model.specs.Answers.{Outcome, refused}
+use Rattle.model.specs.Choice.{if_then_else_, anyBelow}
+use Rattle.model.specs.Names.{isLetter, isNameByte, allNameBytes, isName, sameName, Line, joined, linesOf, noLine, lineAt, howManyNames, lineWith, symbolOf, isListed, lineGround, namesOr}
+use Rattle.model.specs.Term.{run}
+use Rattle.model.proofs.Choice.{and-true, no-fault, first-fault, none-more, any-none, any-true, is-false, not-both}
+use Rattle.model.proofs.Bytes.{letter-byte, byte-not-ten, end-no-byte, name-bytes, IsName, name-parts, name-made, byte-first, byte-others}
+use Rattle.model.proofs.Names.{same-refl, same-is, first-ended, some-lines, no-lines, line-first, line-none}
+use Rattle.chains.specs.Chains.{Clear}
+use Rattle.chains.specs.declared.Found.the-variants.{At, Nothing}
+use Rattle.chains.proofs.First.{first-none, first-is, apart}
+use Rattle.chains.proofs.Chains.{chained, chains-begin}
+use Rattle.model.proofs.Lists.{drop-next}
+use Rattle.names.proofs.Bytes.{run-more}
+use Rattle.names.specs.Listed.{nameEnd, nameFound, hashOf, bucketOf, Stands, Known, Started, Answered}
+use Rattle.names.specs.declared.Names.the-variants.{Faulty, Sound as NamesSound}
+
+and-no : (t : Bool) → (t && false) ≡ false
+and-no true = refl
+and-no false = refl
+
+and-true-is : (t : Bool) → (t && true) ≡ t
+and-true-is true = refl
+and-true-is false = refl
+
+too-long : (n : List ℕ) → isName n ≡ true → 24 < length n → ⊥
+too-long n e l = let p = name-parts n e in omega (arith, p .short, ap length (p .is))
+
+-- ---- the first line
+
+-- name bytes alone
+first-open : (n : List ℕ) → allNameBytes n ≡ true → lineAt n 0 .ended ≡ false
+unfolding linesOf
+first-open [] e = refl
+first-open (b ∷ n) e = rw (byte-not-ten b (byte-first b n e)) (go (linesOf n) (first-open n (byte-others b n e)))
+  where
+    go : (ls : List Line) → getD ls 0 noLine .ended ≡ false → getD (joined b ls) 0 noLine .ended ≡ false
+    go [] h = refl
+    go (l ∷ ls) h = h
+
+-- name bytes before a byte that is neither a name byte nor byte 10
+first-bad : (n : List ℕ) (y : ℕ) (ys : List ℕ) → allNameBytes n ≡ true → isNameByte y ≡ false → eqb y 10 ≡ false
+    → allNameBytes (lineAt (n ++ y ∷ ys) 0 .bytes) ≡ false
+unfolding linesOf allNameBytes
+first-bad [] y ys e f g = rw g (go (linesOf ys))
+  where
+    go : (ls : List Line) → allNameBytes (getD (joined y ls) 0 noLine .bytes) ≡ false
+    go [] = rw f
+    go (l ∷ ls) = rw f
+first-bad (b ∷ n) y ys e f g = rw (byte-not-ten b (byte-first b n e)) (go (linesOf (n ++ y ∷ ys)) (first-bad n y ys (byte-others b n e) f g))
+  where
+    go : (ls : List Line) → allNameBytes (getD ls 0 noLine .bytes) ≡ false → allNameBytes (getD (joined b ls) 0 noLine .bytes) ≡ false
+    go [] h = let z : _≡_ {A = ℕ} 0 1 = cc in absurd (omega arith)
+    go (l ∷ ls) h = rw h (and-no (isNameByte b))
+
+-- a first line with byte 10 after it: the bytes after that, and the lines after it
+record Split (xs : List ℕ) (ls : List Line) : Type 0 where
+  rest : List ℕ
+  is : xs ≡ getD ls 0 noLine .bytes ++ 10 ∷ rest
+  lines : ls ≡ getD ls 0 noLine ∷ linesOf rest
+
+line-split : (xs : List ℕ) → lineAt xs 0 .ended ≡ true → Split xs (linesOf xs)
+unfolding linesOf
+line-split [] e = let z : _≡_ {A = ℕ} 0 1 = cc in absurd (omega arith)
+line-split (b ∷ bs) e = go (eqb b 10) refl (linesOf bs) refl (line-split bs) e
+  where
+    go : (t : Bool) → eqb b 10 ≡ t → (ls : List Line) → linesOf bs ≡ ls → (getD ls 0 noLine .ended ≡ true → Split bs ls)
+        → getD (if t then record { bytes = []; ended = true } ∷ ls else joined b ls) 0 noLine .ended ≡ true
+        → Split (b ∷ bs) (if t then record { bytes = []; ended = true } ∷ ls else joined b ls)
+    go true q ls f ih e = record { rest = bs; is = ap (λ (x : ℕ). x ∷ bs) (eqb-true b 10 q); lines = ap (λ (x : List Line). record { bytes = []; ended = true } ∷ x) (sym f) }
+    go false q [] f ih e = let z : _≡_ {A = ℕ} 0 1 = cc in absurd (omega arith)
+    go false q (l ∷ ls) f ih e =
+        let s = ih e in
+        record {
+          rest = s .rest;
+          is = ap (λ (x : List ℕ). b ∷ x) (s .is);
+          lines = ap (λ (x : List Line). record { bytes = b ∷ l .bytes; ended = l .ended } ∷ x) (tail-eq-of-cons-eq (s .lines));
+        }
+
+-- ---- the line that begins at a place
+
+-- the run of name bytes there, and what comes after it
+run-split : (xs : List ℕ) → (xs ≡ run xs ++ drop (length (run xs)) xs) × (allNameBytes (run xs) ≡ true) × (isNameByte (getD xs (length (run xs)) 0) ≡ false)
+unfolding run allNameBytes
+run-split [] = (refl, refl, end-no-byte)
+run-split (b ∷ bs) = go (isNameByte b) refl (run-split bs)
+  where
+    go : (t : Bool) → isNameByte b ≡ t → (bs ≡ run bs ++ drop (length (run bs)) bs) × (allNameBytes (run bs) ≡ true) × (isNameByte (getD bs (length (run bs)) 0) ≡ false)
+        → ((b ∷ bs) ≡ (if t then b ∷ run bs else []) ++ drop (length (if t then b ∷ run bs else [])) (b ∷ bs))
+        × (allNameBytes (if t then b ∷ run bs else []) ≡ true)
+        × (isNameByte (getD (b ∷ bs) (length (if t then b ∷ run bs else [])) 0) ≡ false)
+    go true e h = (ap (λ (x : List ℕ). b ∷ x) (h .0), rw e (h .1), h .2)
+    go false e h = (refl, refl, e)
+
+-- where the run ends
+module _ (names : List ℕ) (at end : ℕ) (l : end ≡ at + length (run (drop at names))) where
+  pub rest-is : drop at names ≡ run (drop at names) ++ drop end names
+  rest-is = run-split (drop at names) .0 ∙ ap (λ (x : List ℕ). run (drop at names) ++ x) (drop-drop (length (run (drop at names))) at names ∙ ap (λ (i : ℕ). drop i names) (sym l))
+
+  pub clean : allNameBytes (run (drop at names)) ≡ true
+  clean = run-split (drop at names) .1
+
+  pub end-byte : isNameByte (getD names end 0) ≡ false
+  end-byte = ap (λ (i : ℕ). isNameByte (getD names i 0)) l ∙ sym (ap (λ (x : ℕ). isNameByte x) (getD-drop at names (length (run (drop at names))) 0)) ∙ run-split (drop at names) .2
+
+  -- at the list's end
+  pub end-open : end ≡ length names → Nothing ≡ nameEnd names at
+  unfolding nameEnd
+  end-open e =
+      let r : drop at names ≡ run (drop at names) = rest-is ∙ ap (λ (x : List ℕ). run (drop at names) ++ x) (drop-of-length-le names {i = end} (omega arith)) ∙ append-nil (run (drop at names)) in
+      let f : lineAt (drop at names) 0 .ended ≡ false = ap (λ (x : List ℕ). lineAt x 0 .ended) r ∙ first-open (run (drop at names)) clean in
+      rw (f, and-no (isName (lineAt (drop at names) 0 .bytes)))
+
+  -- before another byte than 10
+  pub end-bad : end < length names → (getD names end 0 ≡ 10 → ⊥) → Nothing ≡ nameEnd names at
+  unfolding nameEnd
+  end-bad m ne =
+      let r : drop at names ≡ run (drop at names) ++ getD names end 0 ∷ drop (suc end) names = rest-is ∙ ap (λ (x : List ℕ). run (drop at names) ++ x) (drop-cons names end 0 m) in
+      let f : allNameBytes (lineAt (drop at names) 0 .bytes) ≡ false =
+      ap (λ (x : List ℕ). allNameBytes (lineAt x 0 .bytes)) r ∙ first-bad (run (drop at names)) (getD names end 0) (drop (suc end) names) clean end-byte (ne-eqb (getD names end 0) 10 ne) in
+      let g : isName (lineAt (drop at names) 0 .bytes) ≡ false = is-false (isName (lineAt (drop at names) 0 .bytes)) (λ h. not-both (allNameBytes (lineAt (drop at names) 0 .bytes)) (name-bytes (lineAt (drop at names) 0 .bytes) h) f) in
+      rw g
+
+  -- before byte 10
+  module _ (m : end < length names) (ten : getD names end 0 ≡ 10) where
+    line-is : lineAt (drop at names) 0 ≡ record { bytes = run (drop at names); ended = true }
+    line-is =
+        let r : drop at names ≡ run (drop at names) ++ 10 ∷ drop (suc end) names =
+        rest-is ∙ ap (λ (x : List ℕ). run (drop at names) ++ x) (drop-cons names end 0 m ∙ ap (λ (x : ℕ). x ∷ drop (suc end) names) ten) in
+        ap (λ (x : List ℕ). lineAt x 0) r ∙ ap (λ (x : List Line). getD x 0 noLine) (first-ended (run (drop at names)) (drop (suc end) names) clean)
+
+    ended-by : nameEnd names at ≡ (if isName (run (drop at names)) then At end else Nothing)
+    unfolding nameEnd
+    ended-by = rw (line-is, and-true-is (isName (run (drop at names))), l)
+
+    pub end-long : 24 < end - at → Nothing ≡ nameEnd names at
+    end-long h =
+        let f : isName (run (drop at names)) ≡ false = is-false (isName (run (drop at names))) (λ e. too-long (run (drop at names)) e (omega (arith, l))) in
+        sym (rw f at ended-by)
+
+    pub end-name : end - at ≤ 24 → isLetter (getD names at 0) ≡ true → At end ≡ nameEnd names at
+    end-name h e =
+        let q = run-more names at (omega (arith, l)) (letter-byte (getD names at 0) e) in
+        let c = byte-others (getD names at 0) (run (drop (at + 1) names)) (rw q at clean) in
+        let n = ap length q in
+        let f : isName (run (drop at names)) ≡ true =
+        ap (λ (x : List ℕ). isName x) q ∙ name-made (getD names at 0) (run (drop (at + 1) names)) e c (omega (arith, n, l)) in
+        sym (rw f at ended-by)
+
+    pub end-no-letter : isLetter (getD names at 0) ≡ false → Nothing ≡ nameEnd names at
+    end-no-letter e =
+        let f : isName (run (drop at names)) ≡ false = is-false (isName (run (drop at names))) (λ t. go (name-parts (run (drop at names)) t)) in
+        sym (rw f at ended-by)
+      where
+        go : IsName (run (drop at names)) → ⊥
+        go p =
+            let r : p .first ∷ (p .others ++ drop end names) ≡ getD names at 0 ∷ drop (at + 1) names =
+            ap (λ (x : List ℕ). x ++ drop end names) (sym (p .is)) ∙ sym rest-is ∙ drop-next names at (omega (arith, l)) in
+            not-both (isLetter (getD names at 0)) (ap (λ (x : ℕ). isLetter x) (sym (head-eq-of-cons-eq r)) ∙ p .letter) e
+
+-- ---- the lines taken so far
+
+-- a name that is found on no line is on none of them
+pub found-none : (names : List ℕ) (n : ℕ) (name : List ℕ) → nameFound names n name ≡ Nothing → (k : ℕ) → k < n → sameName (lineAt names k .bytes) name ≡ false
+found-none names n name e k l = is-false (sameName (lineAt names k .bytes) name) (first-none (λ j. sameName (lineAt names j .bytes) name) n e k l)
+
+-- the first n lines are without fault, and the next one begins at `at`
+pub record Sofar (names starts heads next : List ℕ) (n at : ℕ) : Type 0 where
+  pub known : Known names starts heads next n
+  pub at-is : getD starts n 0 ≡ at
+  pub within : at ≤ length names
+  pub small : at ≤ 25 * n
+  pub lines : (j : ℕ) → lineAt names (n + j) ≡ lineAt (drop at names) j
+  pub left : howManyNames names ≡ n + howManyNames (drop at names)
+  pub sound : (k : ℕ) → k < n → lineGround names k ≡ 0
+
+-- before the first line
+pub begins : (names starts heads next : List ℕ) → Started starts → Clear 512 256 heads next → Sofar names starts heads next 0 0
+begins names starts heads next s z = record {
+  known = record {
+    lined = record { few = omega arith; long = s .long; stands = λ k l. absurd (omega arith) };
+    chains = chains-begin (bucketOf names) z;
+    apart = λ j k m l. absurd (omega arith);
+  };
+  at-is = s .first;
+  within = omega arith;
+  small = omega arith;
+  lines = λ j. ap (λ (i : ℕ). lineAt names i) (let e : 0 + j ≡ j = omega arith in e);
+  left = omega arith;
+  sound = λ k l. absurd (omega arith);
+}
+
+module _ {names starts heads next : List ℕ} {n at : ℕ} (s : Sofar names starts heads next n at) (l : at < length names) where
+  some-left : n < howManyNames names
+  some-left =
+      let d : length (drop at names) ≡ length names - at = length-drop at names in
+      omega (arith, s .left, some-lines (drop at names) (λ e. omega (arith, d)))
+
+  here : lineAt names n ≡ lineAt (drop at names) 0
+  here = ap (λ (i : ℕ). lineAt names i) (let e : n ≡ n + 0 = omega arith in e) ∙ s .lines 0
+
+  -- line n is the first faulty one
+  faulty : lineGround names n ≡ 17 → (o : Outcome) → refused 17 n ≡ namesOr names o
+  unfolding namesOr
+  faulty g o =
+      let none : eqb (length names) 0 ≡ false = ne-eqb (length names) 0 (λ e. omega arith) in
+      rw none (sym (rw g at (first-fault (howManyNames names) n (lineGround names) o some-left (s .sound) (omega (arith, g)))))
+
+  ground : (a b c d : Bool) → not (isName (lineAt names n .bytes)) ≡ a → anyBelow n (λ j. sameName (lineAt names j .bytes) (lineAt names n .bytes)) ≡ b → leb 255 n ≡ c → not (lineAt names n .ended) ≡ d
+      → lineGround names n ≡ (if a || b || c || d then 17 else 0)
+  unfolding lineGround
+  ground a b c d p q r t = rw (p, q, r, t)
+
+  pub too-many : 255 ≤ n → (o : Outcome) → refused 17 n ≡ namesOr names o
+  too-many h = faulty (rw (or-true) at (ground _ _ true _ refl refl (le-leb 255 n h) refl))
+
+  pub no-name : nameEnd names at ≡ Nothing → (o : Outcome) → refused 17 n ≡ namesOr names o
+  unfolding nameEnd
+  no-name e = faulty (go (isName (lineAt names n .bytes)) (lineAt names n .ended) refl refl e′)
+    where
+      e′ : (if isName (lineAt names n .bytes) && lineAt names n .ended then At (at + length (lineAt (drop at names) 0 .bytes)) else Nothing) ≡ Nothing
+      e′ = rw (here) e
+
+      go : (a b : Bool) → isName (lineAt names n .bytes) ≡ a → lineAt names n .ended ≡ b
+          → (if a && b then At (at + length (lineAt (drop at names) 0 .bytes)) else Nothing) ≡ Nothing → lineGround names n ≡ 17
+      go true true p q f = apart _ f
+      go true false p q f = rw (or-true) at (ground _ _ _ true refl refl refl (ap (λ (t : Bool). not t) q))
+      go false b p q f = ground true _ _ _ (ap (λ (t : Bool). not t) p) refl refl refl
+
+  -- the line is a name, and ends before byte 10
+  module _ (end : ℕ) (e : nameEnd names at ≡ At end) where
+    found-by : (t : Bool) (x : ℕ) → (if t then At x else Nothing) ≡ At end → (t ≡ true) × (x ≡ end)
+    found-by true x f = (refl, cc)
+    found-by false x f = apart end (sym f)
+
+    tests : ((isName (lineAt (drop at names) 0 .bytes) && lineAt (drop at names) 0 .ended) ≡ true) × (at + length (lineAt (drop at names) 0 .bytes) ≡ end)
+    unfolding nameEnd
+    tests = found-by _ _ e
+
+    is-name : isName (lineAt names n .bytes) ≡ true
+    is-name = rw (here) (and-true (isName (lineAt (drop at names) 0 .bytes)) (lineAt (drop at names) 0 .ended) (tests .0) .0)
+
+    is-ended : lineAt names n .ended ≡ true
+    is-ended = rw (here) (and-true (isName (lineAt (drop at names) 0 .bytes)) (lineAt (drop at names) 0 .ended) (tests .0) .1)
+
+    end-is : end ≡ at + length (lineAt names n .bytes)
+    end-is = rw (here) (sym (tests .1))
+
+    split : Split (drop at names) (linesOf (drop at names))
+    split = line-split (drop at names) (and-true (isName (lineAt (drop at names) 0 .bytes)) (lineAt (drop at names) 0 .ended) (tests .0) .1)
+
+    spot : drop at names ≡ lineAt names n .bytes ++ 10 ∷ split .rest
+    spot = rw (here) (split .is)
+
+    short : length (lineAt names n .bytes) ≤ 24
+    short = let p = name-parts (lineAt names n .bytes) is-name in omega (arith, p .short, ap length (p .is))
+
+    pub fits : (end + 1 ≤ length names) × (at ≤ end)
+    fits =
+        let a = ap length spot in
+        let b = length-append (lineAt names n .bytes) (10 ∷ split .rest) in
+        let c = length-drop at names in
+        (omega (arith, end-is), omega (arith, end-is))
+
+    pub short-end : end + 1 ≤ 25 * (n + 1)
+    short-end = omega (arith, s .small, end-is, short)
+
+    rest-after : split .rest ≡ drop (end + 1) names
+    rest-after =
+        let b : length (lineAt names n .bytes ++ (10 ∷ [])) ≡ length (lineAt names n .bytes) + 1 = length-append (lineAt names n .bytes) (10 ∷ []) in
+        sym (drop-at (lineAt names n .bytes ++ (10 ∷ [])) (split .rest) (length (lineAt names n .bytes) + 1) b)
+        ∙ ap (λ (x : List ℕ). drop (length (lineAt names n .bytes) + 1) x) (append-assoc (lineAt names n .bytes) (10 ∷ []) (split .rest) ∙ sym spot)
+        ∙ drop-drop (length (lineAt names n .bytes) + 1) at names
+        ∙ ap (λ (i : ℕ). drop i names) (let z : at + (length (lineAt names n .bytes) + 1) ≡ end + 1 = omega (arith, end-is) in z)
+
+    lines-after : linesOf (drop at names) ≡ lineAt names n ∷ linesOf (drop (end + 1) names)
+    lines-after = split .lines ∙ ap (λ (x : Line). x ∷ linesOf (split .rest)) (sym here) ∙ ap (λ (x : List ℕ). lineAt names n ∷ linesOf x) rest-after
+
+    pub part-is : take (end - at) (drop at names) ≡ lineAt names n .bytes
+    part-is = ap (λ (x : List ℕ). take (end - at) x) spot ∙ take-at (lineAt names n .bytes) (10 ∷ split .rest) (end - at) (omega (arith, end-is))
+
+    -- the name stands on an earlier line
+    pub again : (k : ℕ) → nameFound names n (take (end - at) (drop at names)) ≡ At k → (o : Outcome) → refused 17 n ≡ namesOr names o
+    again k f =
+        let g = first-is (λ j. sameName (lineAt names j .bytes) (lineAt names n .bytes)) n k (rw (part-is) at f) in
+        faulty (rw (or-true) at (ground _ true _ _ refl (any-true n k (λ j. sameName (lineAt names j .bytes) (lineAt names n .bytes)) (g .0) (g .1)) refl refl))
+
+    -- it stands on none
+    module _ (few : n < 255) (b : ℕ) (q : b ≡ hashOf (take (end - at) (drop at names))) (lt : b < 512) (none : nameFound names n (take (end - at) (drop at names)) ≡ Nothing) where
+      new : (j : ℕ) → j < n → sameName (lineAt names j .bytes) (lineAt names n .bytes) ≡ false
+      new = found-none names n (lineAt names n .bytes) (rw (part-is) at none)
+
+      stands-more : (k : ℕ) → k < n + 1 → (t : Bool) → ltb k n ≡ t
+          → Stands names (getD (set starts (n + 1) (end + 1)) k 0) (getD (set starts (n + 1) (end + 1)) (k + 1) 0) (lineAt names k .bytes)
+      stands-more k m true p =
+          let below = ltb-true k n p in
+          rw (getD-set-other starts (n + 1) k (end + 1) 0 (λ h. omega arith), getD-set-other starts (n + 1) (k + 1) (end + 1) 0 (λ h. omega arith)) (s .known .lined .stands k below)
+      stands-more k m false p =
+          let same : k ≡ n = omega (arith, ltb-false k n p) in
+          rw (same, getD-set-other starts (n + 1) n (end + 1) 0 (λ h. omega arith), getD-set-same starts (n + 1) (end + 1) 0 (omega (arith, s .known .lined .long)), s .at-is) (record {
+            ends = omega (arith, end-is);
+            within = fits .0;
+            part = ap (λ (i : ℕ). take i (drop at names)) (let z : length (lineAt names n .bytes) ≡ end - at = omega (arith, end-is) in z) ∙ part-is;
+            short = short;
+          })
+
+      apart-more : (j k : ℕ) → j < k → k < n + 1 → (t : Bool) → ltb k n ≡ t → sameName (lineAt names j .bytes) (lineAt names k .bytes) ≡ false
+      apart-more j k m i true p = s .known .apart j k m (ltb-true k n p)
+      apart-more j k m i false p = let same : k ≡ n = omega (arith, ltb-false k n p) in rw same (new j (omega arith))
+
+      pub entered : Sofar names (set starts (n + 1) (end + 1)) (set heads b (n + 1)) (set next n (getD heads b 0)) (n + 1) (end + 1)
+      entered = record {
+        known = record {
+          lined = record { few = omega arith; long = length-set starts (n + 1) (end + 1) ∙ s .known .lined .long; stands = λ k m. stands-more k m (ltb k n) refl };
+          chains = chained (s .known .chains) b (rw (part-is) at q) lt (omega arith);
+          apart = λ j k m i. apart-more j k m i (ltb k n) refl;
+        };
+        at-is = getD-set-same starts (n + 1) (end + 1) 0 (omega (arith, s .known .lined .long));
+        within = fits .0;
+        small = short-end;
+        lines = λ j.
+            ap (λ (i : ℕ). lineAt names i) (let z : n + 1 + j ≡ n + suc j = omega arith in z)
+            ∙ s .lines (suc j) ∙ ap (λ (x : List Line). getD x (suc j) noLine) lines-after;
+        left = let a = ap length lines-after in omega (arith, s .left);
+        sound = none-more n (lineGround names) (s .sound)
+            (ground false false false false (ap (λ (t : Bool). not t) is-name)
+            (any-none n (λ j. sameName (lineAt names j .bytes) (lineAt names n .bytes)) new) (lt-leb 255 n few) (ap (λ (t : Bool). not t) is-ended));
+      }
+
+-- all lines are taken
+module _ {names starts heads next : List ℕ} {n at : ℕ} (s : Sofar names starts heads next n at) (ge : length names ≤ at) where
+  pub all-taken : n ≡ howManyNames names
+  unfolding linesOf
+  all-taken = let a = ap length (ap (λ (x : List ℕ). linesOf x) (drop-of-length-le names {i = at} ge)) in omega (arith, s .left)
+
+  pub no-lines-at-all : n ≡ 0 → (o : Outcome) → refused 17 0 ≡ namesOr names o
+  unfolding namesOr
+  no-lines-at-all z o = rw (eq-eqb (length names) 0 (omega (arith, s .small)))
+
+  pub all-sound : (n ≡ 0 → ⊥) → (o : Outcome) → o ≡ namesOr names o
+  unfolding namesOr
+  all-sound nz o =
+      let some : eqb (length names) 0 ≡ false = ne-eqb (length names) 0 (no-lines names (omega (arith, all-taken, pos-of-ne-zero nz))) in
+      rw some (sym (no-fault (howManyNames names) (lineGround names) o (λ k l. s .sound k (omega (arith, all-taken)))))
+
+-- ---- the search for a name
+
+-- the part of the list that a line's starts bound
+pub part-of : {names : List ℕ} {from next : ℕ} {bytes : List ℕ} → Stands names from next bytes → take (next - 1 - from) (drop from names) ≡ bytes
+part-of {names} {from} {next} {bytes} s =
+    ap (λ (i : ℕ). take i (drop from names)) (let e : next - 1 - from ≡ length bytes = omega (arith, s .ends) in e) ∙ s .part
+
+-- the line that a chain is walked for
+abbrev pub sought : (names name : List ℕ) → ℕ → Bool
+sought names name k = sameName (lineAt names k .bytes) name
+
+-- it is in the name's bucket
+pub name-bucket : (names name : List ℕ) (b : ℕ) → b ≡ hashOf name → (k : ℕ) → sought names name k ≡ true → bucketOf names k ≡ b
+name-bucket names name b e k t = ap (λ (x : List ℕ). hashOf x) (same-is (lineAt names k .bytes) name t) ∙ sym e
+
+-- no earlier line has the name
+pub no-earlier : {names starts heads next : List ℕ} {n : ℕ} → Known names starts heads next n → (name : List ℕ) (p : ℕ) → p < n → sought names name p ≡ true
+    → (k : ℕ) → k < p → sought names name k ≡ true → ⊥
+no-earlier {names} x name p l t k m u =
+    not-both (sameName (lineAt names k .bytes) (lineAt names p .bytes))
+    (ap (λ (y : List ℕ). sameName y (lineAt names p .bytes)) (same-is (lineAt names k .bytes) name u ∙ sym (same-is (lineAt names p .bytes) name t)) ∙ same-refl (lineAt names p .bytes))
+    (x .apart k p m l)
+
+-- a name found among all lines is listed, and its symbol is 1 more than the line; one that is not found is not listed
+pub found-listed : (names name : List ℕ) (n k : ℕ) → n ≡ howManyNames names → nameFound names n name ≡ At k → (isListed names name ≡ true) × (symbolOf names name ≡ k + 1) × (k < n)
+unfolding isListed symbolOf
+found-listed names name n k e f =
+    let g = first-is (λ j. sameName (lineAt names j .bytes) name) n k f in
+    let w = line-first (linesOf names) name k (omega (arith, g .0)) (g .1) (λ j l. is-false (sameName (lineAt names j .bytes) name) (g .2 j l)) in
+    (lt-ltb (lineWith (linesOf names) name) (howManyNames names) (omega (arith, g .0)), omega arith, g .0)
+
+pub not-found-listed : (names name : List ℕ) (n : ℕ) → n ≡ howManyNames names → nameFound names n name ≡ Nothing → isListed names name ≡ false
+unfolding isListed
+not-found-listed names name n e f =
+    let w = line-none (linesOf names) name (λ k l. found-none names n name f k (omega arith)) in
+    le-ltb (lineWith (linesOf names) name) (howManyNames names) (omega arith)
+
+-- ---- the answer
+
+-- a faulty line, and what follows from 'the list keeps to the rules'
+pub faulty-line : {names starts heads next : List ℕ} (k : ℕ) → ((o : Outcome) → refused 17 k ≡ namesOr names o) → Answered names starts heads next (Faulty k)
+faulty-line k d = record { decided = d; count = λ n h. never h; known = λ n h. never h }
+  where
+    never : {A : Type 0} {n : ℕ} → Faulty k ≡ NamesSound n → A
+    never h = let z : _≡_ {A = ℕ} 0 1 = cc in absurd (omega arith)
+
+pub sound-list : {names starts heads next : List ℕ} {n at : ℕ} → Sofar names starts heads next n at → length names ≤ at → (n ≡ 0 → ⊥)
+    → Answered names starts heads next (NamesSound n)
+sound-list {names} {starts} {heads} {next} {n} s ge nz = record {
+  decided = all-sound s ge nz;
+  count = λ m h. sym (same h) ∙ all-taken s ge;
+  known = λ m h. rw (sym (same h)) (s .known);
+}
+  where
+    same : {m : ℕ} → NamesSound n ≡ NamesSound m → n ≡ m
+    same h = cc

@@ -1,0 +1,67 @@
+use native.Mathlib.Omega.{arith}
+use mathlib.Core.Path.{_≡_, sym, ap, _∙_}
+use mathlib.Core.List.{List}
+use Prim.Native.Nat.{ℕ, _-_}
+use Rattle.model.specs.Names.{sameName}
+use Rattle.chains.proofs.Chains.{Walk, walk-begins, walk-goes, walk-finds, walk-ends}
+use Rattle.names.specs.Listed.{bucketOf}
+use Rattle.names.proofs.Lines.{sought, name-bucket, no-earlier}
+use Rattle.names.proofs.find_in.Statement.{statement}
+use borrow.Author.Needs.{needs}
+use Rattle.names.proofs.find_in.Tie as tie
+
+abbrev Inv-loop : tie.InvT-loop
+Inv-loop names starts heads next n b name p₀ p = Walk (bucketOf names) (sought names name) b n p
+
+abbrev μ-loop : tie.MeasureT-loop
+μ-loop names starts heads next n b name p₀ p = p
+
+asked : (c : tie.After-same-name Inv-loop μ-loop) → c .same-name .result ≡ sought (c .before .before .before .before .before .before .before .before .args .names .now) (c .before .before .before .before .before .before .before .before .args .name .now) (c .before .before .before .loop .p - 1)
+asked c = c .same-name .ensures ∙ ap (λ (x : List ℕ). sameName x (c .before .before .before .before .before .before .before .before .args .name .now)) (c .before .name-at .ensures)
+
+loop-holds : tie.Need-loop-holds Inv-loop μ-loop
+loop-holds c = let st = c .before .before .before .before in
+    rw (c .wide .ensures) (walk-begins _ _ _ (name-bucket (st .args .names .now) _ _ (st .pre .1 .0)) (st .pre .0 .chains) (st .pre .1 .1))
+
+name-at-requires : tie.Need-name-at-requires Inv-loop μ-loop
+name-at-requires c κs = (c .before .before .before .before .before .before .pre .0 .lined, omega (arith, c .before .loop .inv .within))
+
+returns : tie.Need-returns Inv-loop μ-loop
+returns c = let q = c .before .before .before .before in
+    let st = q .before .before .before .before .before in
+    let told = sym (asked (c .before)) ∙ c .if1 .taken in
+    walk-finds _ _ _ (q .loop .p) (q .loop .inv) (c .before .before .before .loop-test .taken) told (no-earlier (st .pre .0) _ (q .loop .p - 1) (omega (arith, q .loop .inv .within)) told)
+
+loop-less : tie.Need-loop-less Inv-loop μ-loop
+loop-less c = let q = c .before .before .before .before .before .before in
+    omega (arith, c .wide2 .ensures, q .before .before .before .before .before .pre .0 .chains .next-link (q .loop .p - 1) (omega (arith, q .loop .inv .within)) .within)
+
+loop-again : tie.Need-loop-again Inv-loop μ-loop
+loop-again c = let q = c .before .before .before .before .before .before in
+    let st = q .before .before .before .before .before in
+    let told = sym (asked (c .before .before .before)) ∙ c .before .before .if1 .left in
+    rw (c .wide2 .ensures) (walk-goes _ _ _ (name-bucket (st .args .names .now) _ _ (st .pre .1 .0)) (st .pre .0 .chains) (q .loop .p) (q .loop .inv) (c .before .before .before .before .before .loop-test .taken) told)
+
+returns-2 : tie.Need-returns-2 Inv-loop μ-loop
+returns-2 c = walk-ends _ _ _ (c .before .loop .p) (c .before .loop .inv) (c .loop-test .left)
+
+pub find-in-spec : {M : Type 1} → statement M
+find-in-spec =
+    tie.close
+    (tie.spec
+    Inv-loop
+    μ-loop
+    (λ c. search needs)
+    (λ c. search needs)
+    (λ c κs. search needs)
+    loop-holds
+    (λ c. search needs)
+    name-at-requires
+    (λ c κs. search needs)
+    returns
+    (λ c. search needs)
+    (λ c. search needs)
+    (λ c κs. search needs)
+    loop-less
+    loop-again
+    returns-2)

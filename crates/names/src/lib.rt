@@ -1,0 +1,209 @@
+// Names lists: refusal 17, and the line with a name.
+use chains::Found;
+use chains::wide;
+ghost use mathlib.Core.Path.{_≡_};
+ghost use Prim.Native.Nat.{_+_, _<_, _≤_};
+ghost use lib.ListN.{length, drop};
+ghost use Rattle.model.specs.Names.{isLetter, isNameByte, sameName, lineAt};
+ghost use Rattle.model.specs.Term.{run};
+ghost use Rattle.chains.specs.Chains.{Clear};
+ghost use Rattle.names.specs.Listed.{nameEnd, hashOf, nameFound, Lined, Known, Started, Answered};
+
+// The list keeps to the rules, with so many names; or a line is the first faulty one.
+pub enum Names {
+    Sound(usize),
+    Faulty(usize),
+}
+
+pub fn is_letter(b: u8) -> bool
+    ensures { λ r. ⌜ r ≡ isLetter b ⌝ }
+{
+    if b < 65 {
+        return false;
+    }
+    if b <= 90 {
+        return true;
+    }
+    if b < 97 {
+        return false;
+    }
+    b <= 122
+}
+
+pub fn is_name_byte(b: u8) -> bool
+    ensures { λ r. ⌜ r ≡ isNameByte b ⌝ }
+{
+    if is_letter(b) {
+        return true;
+    }
+    if b < 48 {
+        return b == 45;
+    }
+    if b <= 57 {
+        return true;
+    }
+    b == 95
+}
+
+// Whether two names are equal.
+pub fn same_name(a: &[u8], b: &[u8]) -> bool
+    ensures { λ r. ⌜ r ≡ sameName (now (a .entry)) (now (b .entry)) ⌝ }
+{
+    if a.len() != b.len() {
+        return false;
+    }
+    let mut i: usize = 0;
+    while i < a.len() {
+        if a[i] != b[i] {
+            return false;
+        }
+        i += 1;
+    }
+    true
+}
+
+// Where the run of name bytes from `at` ends.
+pub fn run_end(bytes: &[u8], at: usize) -> usize
+    requires { ⌜ at ≤ length (now bytes) ⌝ }
+    ensures { λ r. ⌜ (r ≡ at + length (run (drop at (now (bytes .entry))))) × (r ≤ length (now (bytes .entry))) ⌝ }
+{
+    let mut i = at;
+    while i < bytes.len() {
+        if is_name_byte(bytes[i]) {
+            i += 1;
+        } else {
+            return i;
+        }
+    }
+    i
+}
+
+// Where the name of the line that begins at `at` ends, if the line is a name followed by byte 10.
+fn name_end(names: &[u8], at: usize) -> Found
+    requires { ⌜ at < length (now names) ⌝ }
+    ensures { λ r. ⌜ r ≡ nameEnd (now (names .entry)) at ⌝ }
+{
+    let end = run_end(names, at);
+    if end == names.len() {
+        return Found::Nothing;
+    }
+    if names[end] != 10 {
+        return Found::Nothing;
+    }
+    if 24 < end - at {
+        return Found::Nothing;
+    }
+    if is_letter(names[at]) {
+        return Found::At(end);
+    }
+    Found::Nothing
+}
+
+// The bucket of a name.
+fn hash(name: &[u8]) -> usize
+    ensures { λ r. ⌜ (r ≡ hashOf (now (name .entry))) × (r < 512) ⌝ }
+{
+    let mut h: u64 = 0;
+    let mut i: usize = 0;
+    while i < name.len() {
+        h = (h * 2654435769 + name[i] as u64) % 4294967296;
+        i += 1;
+    }
+    (h * 2654435769 % 4294967296 / 8388608) as usize
+}
+
+// The name on a line, as a part of the list.
+pub fn name_at<'a>(names: &'a [u8], starts: &[u16; 256], n: usize, k: usize) -> &'a [u8]
+    requires { ⌜ Lined (now names) (now starts) n ⌝ }
+    requires { ⌜ k < n ⌝ }
+    ensures { λ r. ⌜ now r ≡ lineAt (now (names .entry)) k .bytes ⌝ }
+{
+    let from = wide(starts[k]);
+    let end = wide(starts[k + 1]) - 1;
+    &names[from..end]
+}
+
+// The line among the first n with this name, whose bucket is b.
+fn find_in(
+    names: &[u8],
+    starts: &[u16; 256],
+    heads: &[u16; 512],
+    next: &[u16; 256],
+    n: usize,
+    b: usize,
+    name: &[u8],
+) -> Found
+    requires { ⌜ Known (now names) (now starts) (now heads) (now next) n ⌝ }
+    requires { ⌜ (b ≡ hashOf (now name)) × (b < 512) ⌝ }
+    ensures { λ r. ⌜ r ≡ nameFound (now (names .entry)) n (now (name .entry)) ⌝ }
+{
+    let mut p = wide(heads[b]);
+    while 0 < p {
+        let k = p - 1;
+        if same_name(name_at(names, starts, n, k), name) {
+            return Found::At(k);
+        }
+        p = wide(next[k]);
+    }
+    Found::Nothing
+}
+
+// The line among the first n with this name.
+pub fn find_name(
+    names: &[u8],
+    starts: &[u16; 256],
+    heads: &[u16; 512],
+    next: &[u16; 256],
+    n: usize,
+    name: &[u8],
+) -> Found
+    requires { ⌜ Known (now names) (now starts) (now heads) (now next) n ⌝ }
+    ensures { λ r. ⌜ r ≡ nameFound (now (names .entry)) n (now (name .entry)) ⌝ }
+{
+    find_in(names, starts, heads, next, n, hash(name), name)
+}
+
+// The first faulty line; where there is none, the lines' starts and the index of names.
+pub fn check_names(
+    names: &[u8],
+    starts: &mut [u16; 256],
+    heads: &mut [u16; 512],
+    next: &mut [u16; 256],
+) -> Names
+    requires { ⌜ Started (now starts) ⌝ }
+    requires { ⌜ Clear 512 256 (now heads) (now next) ⌝ }
+    ensures { λ r. ⌜ Answered (now (names .entry)) (now (starts .exit)) (now (heads .exit)) (now (next .exit)) r ⌝ }
+{
+    let mut n: usize = 0;
+    let mut at: usize = 0;
+    while at < names.len() {
+        if 255 <= n {
+            return Names::Faulty(n);
+        }
+        match name_end(names, at) {
+            Found::Nothing => {
+                return Names::Faulty(n);
+            }
+            Found::At(end) => {
+                let name = &names[at..end];
+                let b = hash(name);
+                match find_in(names, &*starts, &*heads, &*next, n, b, name) {
+                    Found::At(_) => {
+                        return Names::Faulty(n);
+                    }
+                    Found::Nothing => {
+                        next[n] = heads[b];
+                        n += 1;
+                        heads[b] = n as u16;
+                        at = end + 1;
+                        starts[n] = at as u16;
+                    }
+                }
+            }
+        }
+    }
+    if n == 0 {
+        return Names::Faulty(0);
+    }
+    Names::Sound(n)
+}

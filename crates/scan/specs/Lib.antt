@@ -1,0 +1,2 @@
+-- What the reading of a text promises.
+pub mod Reading

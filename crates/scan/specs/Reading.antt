@@ -1,0 +1,33 @@
+-- The states in which the code reads a text, as document 01's definitions have them. Assumes nothing: these are definitions.
+use Prim.Native.Nat.{ℕ}
+use mathlib.Core.List.{List}
+use Rattle.model.specs.Term as term
+use Rattle.chains.specs.declared.Found.{Found}
+use Rattle.chains.specs.declared.Found.the-variants.{At, Nothing}
+use Rattle.scan.specs.declared.Reading.{Reading}
+use Rattle.scan.specs.declared.Reading.the-variants.{Due, InName, Closed}
+use Rattle.scan.specs.declared.Step.{Step}
+use Rattle.scan.specs.declared.Step.the-variants.{GoesOn, Stops}
+
+abbrev pub seen : Reading → term.Reading
+seen (Due depth) = term.due depth
+seen (InName depth bytes) = term.inName depth bytes
+seen (Closed depth) = term.closed depth
+
+abbrev pub seenStep : Step → term.Step
+seenStep (GoesOn r) = term.goesOn (seen r)
+seenStep Stops = term.stops
+
+-- how many brackets are open
+abbrev pub depthOf : term.Reading → ℕ
+depthOf (term.due depth) = depth
+depthOf (term.inName depth bytes) = depth
+depthOf (term.closed depth) = depth
+
+-- the place at which a text stops being a term
+abbrev pub placeOf : term.Scan → Found
+placeOf term.passes = Nothing
+placeOf (term.breaksAt place) = At place
+
+abbrev pub scanned : List ℕ → term.Scan
+scanned text = term.scan (term.due 0) 0 text

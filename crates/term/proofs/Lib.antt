@@ -1,0 +1,8 @@
+-- The laws of names lists and terms.
+pub mod Letters
+pub mod Tokens
+pub mod Runs
+pub mod Writing
+pub mod Entering
+pub mod Lettering
+pub mod Outcomes

@@ -1,0 +1,127 @@
+-- Writing at the front of a lent list, piece by piece. Assumes nothing.
+use Prim.Native.Nat.{ℕ, _+_, _-_, _<_, _≤_}
+use mathlib.Core.Path.{_≡_, refl, sym, ap, _∙_}
+use mathlib.Core.List.{List, [], _∷_, _++_, append-assoc, append-nil}
+use native.Mathlib.Omega.{arith}
+use native.Mathlib.Numerals.{add-one}
+use mathlib.Core.Bool.{Bool, true, false}
+use lib.ListN.{length, take, drop, set, length-append, length-drop, length-set, take-append-drop}
+use lib.Seq.{length-take-le, drop-at, take-at, drop-drop, drop-append-add, append-snoc, set-split}
+use Rattle.term.specs.Emit.{nodeEntries}
+use Rattle.term.specs.Written.{Put, Front}
+
+-- of all that is to be written, the rest is not written yet; the next place comes after what is
+pub record Writing (old new all rest : List ℕ) (at : ℕ) : Type 0 where
+  pub done : List ℕ
+  pub whole : done ++ rest ≡ all
+  pub place : length done ≡ at
+  pub holds : new ≡ done ++ drop at old
+  pub room : length all ≤ length old
+
+pub writing-first : (old all : List ℕ) → length all ≤ length old → Writing old old all all 0
+writing-first old all l = record { done = []; whole = refl; place = refl; holds = refl; room = l }
+
+module _ {old new all : List ℕ} {at : ℕ} (piece rest : List ℕ) (w : Writing old new all (piece ++ rest) at) where
+  lengths : (at + length piece + length rest ≡ length all) × (length new ≡ length old)
+  lengths =
+      let a = ap length (w .whole) in
+      let b = length-append (w .done) (piece ++ rest) in
+      let c = length-append piece rest in
+      let d = ap length (w .holds) in
+      let e = length-append (w .done) (drop at old) in
+      let f = length-drop at old in
+      (omega (arith, w .place), omega (arith, w .place, w .room))
+
+  -- there is room for the piece
+  pub piece-fits : at + length piece ≤ length new
+  piece-fits = omega (arith, lengths, w .room)
+
+  pub piece-put : (new′ : List ℕ) (next : ℕ) → Put new new′ piece at next → Writing old new′ all rest next
+  piece-put new′ next p = record {
+    done = w .done ++ piece;
+    whole = append-assoc (w .done) piece rest ∙ w .whole;
+    place = length-append (w .done) piece ∙ (let z : length (w .done) + length piece ≡ next = omega (arith, w .place, p .after) in z);
+    holds =
+        p .holds
+        ∙ ap (λ (x : List ℕ). x ++ piece ++ drop (at + length piece) new) (ap (λ (x : List ℕ). take at x) (w .holds) ∙ take-at (w .done) (drop at old) at (w .place))
+        ∙ ap (λ (x : List ℕ). w .done ++ piece ++ x) tail;
+    room = w .room;
+  }
+    where
+      tail : drop (at + length piece) new ≡ drop next old
+      tail =
+          ap (λ (x : List ℕ). drop (at + length piece) x) (w .holds)
+          ∙ ap (λ (i : ℕ). drop (i + length piece) (w .done ++ drop at old)) (sym (w .place))
+          ∙ drop-append-add (w .done) (drop at old) (length piece)
+          ∙ drop-drop (length piece) at old
+          ∙ ap (λ (i : ℕ). drop i old) (sym (p .after))
+
+-- the list keeps its length
+pub writing-length : {old new all rest : List ℕ} {at : ℕ} → Writing old new all rest at → length new ≡ length old
+writing-length {old} {new} {all} {rest} {at} w = lengths [] rest w .1
+
+-- all is written
+pub writing-last : {old new all : List ℕ} {at : ℕ} → Writing old new all [] at → Front old new all
+writing-last {old} {new} {all} {at} w =
+    let d : w .done ≡ all = sym (append-nil (w .done)) ∙ w .whole in
+    record { holds = w .holds ∙ ap (λ (i : ℕ). w .done ++ drop i old) (sym (w .place)) ∙ ap (λ (x : List ℕ). x ++ drop (length x) old) d }
+
+-- one item
+pub put-one : (old : List ℕ) (at x : ℕ) → at < length old → Put old (set old at x) (x ∷ []) at (at + 1)
+put-one old at x l = record { holds = set-split old at x l ∙ ap (λ (i : ℕ). take at old ++ x ∷ drop i old) (sym (add-one at)) ∙ sym (append-snoc (take at old) x (drop (at + 1) old)); after = refl }
+
+-- nothing
+pub put-none : (old : List ℕ) (at : ℕ) → at ≤ length old → Put old old [] at at
+put-none old at l =
+    let z : at + 0 ≡ at = omega arith in
+    record { holds = sym (ap (λ (x : List ℕ). x ++ drop (at + 0) old) (append-nil (take at old)) ∙ ap (λ (i : ℕ). take at old ++ drop i old) z ∙ take-append-drop at old); after = omega arith }
+
+-- one piece after another
+pub put-both : (old mid new p q : List ℕ) (at a b : ℕ) → at + length p ≤ length old → Put old mid p at a → Put mid new q a b → Put old new (p ++ q) at b
+put-both old mid new p q at a b l x y =
+    let n = length-append p q in
+    record { holds = y .holds ∙ ap (λ (u : List ℕ). u ++ q ++ drop (a + length q) mid) front ∙ ap (λ (u : List ℕ). take at old ++ p ++ q ++ u) back ∙ ap (λ (u : List ℕ). u ++ drop (at + length (p ++ q)) old) (append-assoc (take at old) p q); after = omega (arith, x .after, y .after) }
+  where
+    long : length (take at old ++ p) ≡ a
+    long = length-append (take at old) p ∙ (let z : length (take at old) + length p ≡ a = omega (arith, length-take-le at old (omega arith), x .after) in z)
+
+    front : take a mid ≡ take at old ++ p
+    front = ap (λ (u : List ℕ). take a u) (x .holds) ∙ take-at (take at old ++ p) (drop (at + length p) old) a long
+
+    back : drop (a + length q) mid ≡ drop (at + length (p ++ q)) old
+    back =
+        sym (drop-drop (length q) a mid)
+        ∙ ap (λ (u : List ℕ). drop (length q) (drop a u)) (x .holds)
+        ∙ ap (λ (u : List ℕ). drop (length q) u) (drop-at (take at old ++ p) (drop (at + length p) old) a long)
+        ∙ drop-drop (length q) (at + length p) old
+        ∙ ap (λ (i : ℕ). drop i old) (let z : at + length p + length q ≡ at + length (p ++ q) = omega (arith, length-append p q) in z)
+
+-- the length stays
+pub put-length : {old new piece : List ℕ} {at next : ℕ} → Put old new piece at next → at + length piece ≤ length old → length new ≡ length old
+put-length {old} {new} {piece} {at} p l =
+    let a = ap length (p .holds) in
+    let b = length-append (take at old ++ piece) (drop (at + length piece) old) in
+    let c = length-append (take at old) piece in
+    let d = length-take-le at old (omega arith) in
+    let e = length-drop (at + length piece) old in
+    omega arith
+
+-- a node's entries
+pub node-leaf : (old : List ℕ) (at s : ℕ) (leaf : Bool) → leaf ≡ true → at + length (nodeEntries s leaf) ≤ length old
+    → Put old (set (set old at s) (at + 1) 0) (nodeEntries s leaf) at (at + 2)
+node-leaf old at s leaf e l =
+    let m : at + 2 ≤ length old = rw e at l in
+    let z : at + 1 + 1 ≡ at + 2 = omega arith in
+    rw e (rw z at (put-both old (set old at s) _ (s ∷ []) (0 ∷ []) at (at + 1) (at + 1 + 1) (omega arith) (put-one old at s (omega arith)) (put-one (set old at s) (at + 1) 0 (omega (arith, length-set old at s)))))
+
+pub node-opens : (old : List ℕ) (at s : ℕ) (leaf : Bool) → leaf ≡ false → at + length (nodeEntries s leaf) ≤ length old → Put old (set old at s) (nodeEntries s leaf) at (at + 1)
+node-opens old at s leaf e l =
+    let m : at + 1 ≤ length old = rw e at l in
+    rw e (put-one old at s (omega arith))
+
+pub node-room : (n at s : ℕ) (leaf : Bool) → at + length (nodeEntries s leaf) ≤ n → at < n
+node-room n at s true l = omega arith
+node-room n at s false l = omega arith
+
+pub leaf-room : (n at s : ℕ) (leaf : Bool) → leaf ≡ true → at + length (nodeEntries s leaf) ≤ n → at + 1 < n
+leaf-room n at s leaf e l = let m : at + 2 ≤ n = rw e at l in omega arith

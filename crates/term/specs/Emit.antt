@@ -1,0 +1,44 @@
+-- What the loops write for a text and for the entries of a tree, item by item. Assumes nothing: these are definitions.
+use Prim.Native.Nat.{ℕ, _+_}
+use mathlib.Core.Bool.{Bool, _&&_, not}
+use mathlib.Core.List.{List, [], _∷_, _++_}
+use lib.ListN.{getD, length}
+use lib.Dec.{eqb}
+use Rattle.model.specs.Choice.{if_then_else_}
+use Rattle.model.specs.Names.{isNameByte, nameOf, symbolOf}
+use Rattle.model.specs.Term.{run}
+
+-- the entries with which a node begins: its symbol and, for a leaf, its bar
+abbrev pub nodeEntries : (symbol : ℕ) (leaf : Bool) → List ℕ
+nodeEntries symbol leaf = symbol ∷ (if leaf then 0 ∷ [] else [])
+
+-- the entries for a byte, other bytes following it: a name's first byte gives its symbol, and where no bracket is opened after the name a
+-- leaf's bar; `)` gives a bar
+unfoldable pub piece : (names : List ℕ) (inName : Bool) (b : ℕ) (bs : List ℕ) → List ℕ
+piece names inName b bs =
+    if isNameByte b then (if inName then [] else nodeEntries (symbolOf names (b ∷ run bs)) (not (eqb (getD bs (length (run bs)) 0) 40))) else
+    if eqb b 41 then 0 ∷ [] else []
+
+-- the entries for the bytes, a name byte before them or none
+unfoldable pub emitted : (names : List ℕ) (inName : Bool) → List ℕ → List ℕ
+emitted names inName [] = []
+emitted names inName (b ∷ bs) = piece names inName b bs ++ emitted names (isNameByte b) bs
+
+-- how many names begin among the bytes
+unfoldable pub nameCount : (inName : Bool) → List ℕ → ℕ
+nameCount inName [] = 0
+nameCount inName (b ∷ bs) = (if isNameByte b && not inName then 1 else 0) + nameCount (isNameByte b) bs
+
+-- the bytes for an entry: before the name of a symbol stands `(` where a symbol comes before it and `,` where a bar does; a bar after a bar
+-- is `)`. What comes before is told by the byte that a name would have before it, 0 for none
+unfoldable pub lettering : (names : List ℕ) (mark e : ℕ) → List ℕ
+lettering names mark e =
+    if eqb e 0 then (if eqb mark 44 then 41 ∷ [] else []) else
+    (if eqb mark 0 then [] else mark ∷ []) ++ nameOf names e
+
+abbrev pub markAfter : ℕ → ℕ
+markAfter e = if eqb e 0 then 44 else 40
+
+unfoldable pub lettered : (names : List ℕ) (mark : ℕ) → List ℕ → List ℕ
+lettered names mark [] = []
+lettered names mark (e ∷ es) = lettering names mark e ++ lettered names (markAfter e) es

@@ -1,0 +1,3 @@
+-- What reading and writing a term promise.
+pub mod Emit
+pub mod Written

@@ -1,0 +1,85 @@
+-- What the parts of reading and writing a term promise. Assumes nothing: these are definitions.
+use Prim.Native.Nat.{ℕ, _+_, _<_, _≤_}
+use mathlib.Core.Path.{_≡_}
+use mathlib.Core.Bool.{false}
+use mathlib.Core.List.{List, _++_}
+use lib.ListN.{length, getD, take, drop}
+use lib.Dec.{ltb}
+use Rattle.model.specs.Answers.{Outcome, result, refused, outcome, lentAfter}
+use Rattle.model.specs.Choice.{if_then_else_, firstFaulty}
+use Rattle.model.specs.Names.{howManyNames}
+use Rattle.model.specs.Term.{termOr}
+use Rattle.model.specs.Entries.{treeOr}
+use Rattle.model.specs.TermOperations.{entriesOf, bytesOf, nameGround, symbolGround, readTermOutcome, writeTermOutcome, readTermList, writeTermList}
+use Rattle.model.specs.declared.Answer.{Answer}
+use Rattle.term.specs.Emit.{nameCount}
+use Rattle.term.specs.declared.Listed.{Listed}
+use Rattle.term.specs.declared.Listed.the-variants.{All, Unlisted}
+
+-- a piece is put at a place, and the next place comes after it
+pub record Put (old new piece : List ℕ) (at next : ℕ) : Type 0 where
+  pub holds : new ≡ take at old ++ piece ++ drop (at + length piece) old
+  pub after : next ≡ at + length piece
+
+-- the list begins with what is written, and the rest stays
+pub record Front (old new written : List ℕ) : Type 0 where
+  pub holds : new ≡ written ++ drop (length written) old
+
+-- the refusal of 20, or where every name is listed what follows
+abbrev pub listedThen : Listed → Outcome → Outcome
+listedThen (All count) otherwise = otherwise
+listedThen (Unlisted place) otherwise = refused 20 place
+
+-- the answer decides 20; where every name is listed, it counts them
+pub record Listing (names text : List ℕ) (r : Listed) : Type 0 where
+  pub decided : (o : Outcome) → listedThen r o ≡ firstFaulty (length text) (nameGround names text) o
+  pub none : (k : ℕ) → r ≡ All k → (i : ℕ) → i < length text → nameGround names text i ≡ 0
+  pub counted : (k : ℕ) → r ≡ All k → k ≡ nameCount false text
+  pub few : (k : ℕ) → r ≡ All k → k ≤ length text
+
+-- every name in the text is on one of the first n lines
+pub record NamesListed (names : List ℕ) (n : ℕ) (text : List ℕ) : Type 0 where
+  pub all : n ≡ howManyNames names
+  pub none : (i : ℕ) → i < length text → nameGround names text i ≡ 0
+
+-- every entry is at most n
+pub record AllNamed (n : ℕ) (tree : List ℕ) : Type 0 where
+  pub few : length tree ≤ 4096
+  pub named : (i : ℕ) → i < length tree → getD tree i 0 ≤ n
+
+-- Reading after 20, after 19, after 18 and after 17: what follows in `readTermOutcome`
+unfoldable pub readFits : (names text : List ℕ) (room : ℕ) → Outcome
+readFits names text room =
+    if ltb 4096 (length (entriesOf names text)) then refused 21 0 else
+    if ltb room (length (entriesOf names text)) then refused 22 (length (entriesOf names text)) else result (length (entriesOf names text))
+
+unfoldable pub readListed : (names text : List ℕ) (room : ℕ) → Outcome
+readListed names text room = firstFaulty (length text) (nameGround names text) (readFits names text room)
+
+unfoldable pub readNamed : (names text : List ℕ) (room : ℕ) → Outcome
+readNamed names text room = if ltb 65536 (length text) then refused 18 0 else termOr text (readListed names text room)
+
+-- Writing after 23, after 13 and after 17: what follows in `writeTermOutcome`
+unfoldable pub writeFits : (names tree : List ℕ) (room : ℕ) → Outcome
+writeFits names tree room = if ltb room (length (bytesOf names tree)) then refused 24 (length (bytesOf names tree)) else result (length (bytesOf names tree))
+
+unfoldable pub writeNamed : (names tree : List ℕ) (room : ℕ) → Outcome
+writeNamed names tree room = firstFaulty (length tree) (symbolGround names tree) (writeFits names tree room)
+
+unfoldable pub writeFormed : (names tree : List ℕ) (room : ℕ) → Outcome
+writeFormed names tree room = treeOr tree (writeNamed names tree room)
+
+-- the answer is the outcome, and the lent list then holds what is written and the old rest, or on a refusal the old list
+pub record Gave (o : Outcome) (written old new : List ℕ) (r : Answer) : Type 0 where
+  pub answer : outcome r ≡ o
+  pub list : new ≡ lentAfter o written old
+
+-- reading a term: the answer, and what the lent tree list then holds
+pub record ReadTerm (names text old new : List ℕ) (r : Answer) : Type 0 where
+  pub answer : outcome r ≡ readTermOutcome names text (length old)
+  pub list : new ≡ readTermList names text old
+
+-- writing a term: the answer, and what the lent text list then holds
+pub record WriteTerm (names tree old new : List ℕ) (r : Answer) : Type 0 where
+  pub answer : outcome r ≡ writeTermOutcome names tree (length old)
+  pub list : new ≡ writeTermList names tree old

@@ -1,0 +1,430 @@
+// Terms: reading one into a tree, and writing a tree as one.
+use chains::Found;
+use chains::wide;
+use model::Answer;
+use model::Kind;
+use model::Refusal;
+use names::Names;
+use names::check_names;
+use names::find_name;
+use names::is_name_byte;
+use names::name_at;
+use names::run_end;
+use scan::scan_text;
+use tree::Form;
+use tree::check_tree;
+ghost use mathlib.Core.Path.{_≡_};
+ghost use mathlib.Core.Bool.{false};
+ghost use Prim.Native.Nat.{_+_, _<_, _≤_};
+ghost use lib.ListN.{length, getD};
+ghost use lib.Dec.{ltb, eqb};
+ghost use Rattle.model.specs.Names.{howManyNames};
+ghost use Rattle.model.specs.Term.{IsTerm};
+ghost use Rattle.model.specs.Tree.{WellFormed};
+ghost use Rattle.model.specs.TermOperations.{entriesOf, bytesOf};
+ghost use Rattle.chains.specs.First.{firstWith};
+ghost use Rattle.names.specs.Listed.{Known, Lined};
+ghost use Rattle.term.specs.Emit.{nodeEntries, emitted, nameCount, lettering, markAfter, lettered};
+ghost use Rattle.term.specs.Written.{Put, Front, Listing, NamesListed, AllNamed, readFits, readListed, readNamed, writeFits, writeNamed, writeFormed, Gave, ReadTerm, WriteTerm};
+
+// Every name in a text is listed, so many; or the first that is not begins at a place.
+pub enum Listed {
+    All(usize),
+    Unlisted(usize),
+}
+
+// Whether every name in the text is listed.
+fn list_names(
+    names: &[u8],
+    starts: &[u16; 256],
+    heads: &[u16; 512],
+    next: &[u16; 256],
+    n: usize,
+    text: &[u8],
+) -> Listed
+    requires { ⌜ Known (now names) (now starts) (now heads) (now next) n ⌝ }
+    requires { ⌜ n ≡ howManyNames (now names) ⌝ }
+    ensures { λ r. ⌜ Listing (now (names .entry)) (now (text .entry)) r ⌝ }
+{
+    let mut count: usize = 0;
+    let mut i: usize = 0;
+    while i < text.len() {
+        if is_name_byte(text[i]) {
+            let end = run_end(text, i);
+            match find_name(names, starts, heads, next, n, &text[i..end]) {
+                Found::Nothing => {
+                    return Listed::Unlisted(i);
+                }
+                Found::At(_) => {
+                    count += 1;
+                    i = end;
+                }
+            }
+        } else {
+            i += 1;
+        }
+    }
+    Listed::All(count)
+}
+
+// Puts a node's symbol and, for a leaf, its bar; gives the place after them.
+fn put_node(tree: &mut [u16], at: usize, symbol: u16, leaf: bool) -> usize
+    requires { ⌜ at + length (nodeEntries symbol leaf) ≤ length (now tree) ⌝ }
+    ensures { λ r. ⌜ Put (now (tree .entry)) (now (tree .exit)) (nodeEntries symbol leaf) at r ⌝ }
+{
+    tree[at] = symbol;
+    if leaf {
+        tree[at + 1] = 0;
+        return at + 2;
+    }
+    at + 1
+}
+
+// Whether the byte at a place is `(`.
+fn opens(text: &[u8], at: usize) -> bool
+    ensures { λ r. ⌜ r ≡ eqb (getD (now (text .entry)) at 0) 40 ⌝ }
+{
+    if at < text.len() {
+        return text[at] == 40;
+    }
+    false
+}
+
+// Puts the entries of the text's tree at the front of the list.
+fn put_entries(
+    names: &[u8],
+    starts: &[u16; 256],
+    heads: &[u16; 512],
+    next: &[u16; 256],
+    n: usize,
+    text: &[u8],
+    tree: &mut [u16],
+)
+    requires { ⌜ Known (now names) (now starts) (now heads) (now next) n ⌝ }
+    requires { ⌜ NamesListed (now names) n (now text) ⌝ }
+    requires { ⌜ length (emitted (now names) false (now text)) ≤ length (now tree) ⌝ }
+    ensures { λ r. ⌜ Front (now (tree .entry)) (now (tree .exit)) (emitted (now (names .entry)) false (now (text .entry))) ⌝ }
+{
+    let mut at: usize = 0;
+    let mut i: usize = 0;
+    while i < text.len() {
+        let b = text[i];
+        if is_name_byte(b) {
+            let end = run_end(text, i);
+            match find_name(names, starts, heads, next, n, &text[i..end]) {
+                Found::At(k) => {
+                    at = put_node(&mut *tree, at, (k + 1) as u16, !opens(text, end));
+                    i = end;
+                }
+                Found::Nothing => {
+                    return;
+                }
+            }
+        } else if b == 41 {
+            tree[at] = 0;
+            at += 1;
+            i += 1;
+        } else {
+            i += 1;
+        }
+    }
+}
+
+// Enters the tree of a term whose names are all listed, where it is not too long and there is room.
+fn enter_tree(
+    names: &[u8],
+    starts: &[u16; 256],
+    heads: &[u16; 512],
+    next: &[u16; 256],
+    n: usize,
+    text: &[u8],
+    count: usize,
+    tree: &mut [u16],
+) -> Answer
+    requires { ⌜ Known (now names) (now starts) (now heads) (now next) n ⌝ }
+    requires { ⌜ NamesListed (now names) n (now text) ⌝ }
+    requires { ⌜ IsTerm (now text) ⌝ }
+    requires { ⌜ (count ≡ nameCount false (now text)) × (count ≤ 65536) ⌝ }
+    ensures { λ r. ⌜ Gave (readFits (now (names .entry)) (now (text .entry)) (length (now (tree .entry)))) (entriesOf (now (names .entry)) (now (text .entry))) (now (tree .entry)) (now (tree .exit)) r ⌝ }
+{
+    let needed = count * 2;
+    if 4096 < needed {
+        return Answer::Refused(Refusal {
+            place: 0,
+            kind: Kind::TermTreeTooLong,
+        });
+    }
+    if tree.len() < needed {
+        return Answer::Refused(Refusal {
+            place: needed as u64,
+            kind: Kind::ShortTermTree,
+        });
+    }
+    put_entries(names, starts, heads, next, n, text, tree);
+    Answer::Result(needed as u64)
+}
+
+// Reads a text that is a term.
+fn read_whole(
+    names: &[u8],
+    starts: &[u16; 256],
+    heads: &[u16; 512],
+    next: &[u16; 256],
+    n: usize,
+    text: &[u8],
+    tree: &mut [u16],
+) -> Answer
+    requires { ⌜ Known (now names) (now starts) (now heads) (now next) n ⌝ }
+    requires { ⌜ n ≡ howManyNames (now names) ⌝ }
+    requires { ⌜ IsTerm (now text) × (length (now text) ≤ 65536) ⌝ }
+    ensures { λ r. ⌜ Gave (readListed (now (names .entry)) (now (text .entry)) (length (now (tree .entry)))) (entriesOf (now (names .entry)) (now (text .entry))) (now (tree .entry)) (now (tree .exit)) r ⌝ }
+{
+    match list_names(names, starts, heads, next, n, text) {
+        Listed::Unlisted(place) => Answer::Refused(Refusal {
+            place: place as u64,
+            kind: Kind::UnlistedName,
+        }),
+        Listed::All(count) => enter_tree(names, starts, heads, next, n, text, count, tree),
+    }
+}
+
+// Reads a text by a names list that keeps to the rules.
+fn read_named(
+    names: &[u8],
+    starts: &[u16; 256],
+    heads: &[u16; 512],
+    next: &[u16; 256],
+    n: usize,
+    text: &[u8],
+    tree: &mut [u16],
+) -> Answer
+    requires { ⌜ Known (now names) (now starts) (now heads) (now next) n ⌝ }
+    requires { ⌜ n ≡ howManyNames (now names) ⌝ }
+    ensures { λ r. ⌜ Gave (readNamed (now (names .entry)) (now (text .entry)) (length (now (tree .entry)))) (entriesOf (now (names .entry)) (now (text .entry))) (now (tree .entry)) (now (tree .exit)) r ⌝ }
+{
+    if 65536 < text.len() {
+        return Answer::Refused(Refusal {
+            place: 0,
+            kind: Kind::TextTooLong,
+        });
+    }
+    match scan_text(text) {
+        Found::At(place) => Answer::Refused(Refusal {
+            place: place as u64,
+            kind: Kind::NotATerm,
+        }),
+        Found::Nothing => read_whole(names, starts, heads, next, n, text, tree),
+    }
+}
+
+// Reads a term: gives the count of the tree's entries, which then stand at the front of the list.
+pub fn read_term(names: &[u8], text: &[u8], tree: &mut [u16]) -> Answer
+    ensures { λ r. ⌜ ReadTerm (now (names .entry)) (now (text .entry)) (now (tree .entry)) (now (tree .exit)) r ⌝ }
+{
+    let mut starts = [0u16; 256];
+    let mut heads = [0u16; 512];
+    let mut next = [0u16; 256];
+    match check_names(names, &mut starts, &mut heads, &mut next) {
+        Names::Faulty(line) => Answer::Refused(Refusal {
+            place: line as u64,
+            kind: Kind::FaultyNames,
+        }),
+        Names::Sound(n) => read_named(names, &starts, &heads, &next, n, text, tree),
+    }
+}
+
+// The first entry that is a symbol above the count of names.
+fn first_unnamed(tree: &[u16], n: usize) -> Found
+    ensures { λ r. ⌜ r ≡ firstWith (λ i. ltb n (getD (now (tree .entry)) i 0)) (length (now (tree .entry))) ⌝ }
+{
+    let mut i: usize = 0;
+    while i < tree.len() {
+        if n < wide(tree[i]) {
+            return Found::At(i);
+        }
+        i += 1;
+    }
+    Found::Nothing
+}
+
+// The byte that a name has before it after this entry: `,` after a bar, `(` after a symbol.
+fn mark_after(e: u16) -> u8
+    ensures { λ r. ⌜ r ≡ markAfter e ⌝ }
+{
+    if e == 0 {
+        return 44;
+    }
+    40
+}
+
+// How many bytes an entry gives.
+fn entry_length(names: &[u8], starts: &[u16; 256], n: usize, mark: u8, e: u16) -> usize
+    requires { ⌜ Lined (now names) (now starts) n ⌝ }
+    requires { ⌜ e ≤ n ⌝ }
+    ensures { λ r. ⌜ (r ≡ length (lettering (now (names .entry)) mark e)) × (r ≤ 25) ⌝ }
+{
+    if e == 0 {
+        if mark == 44 {
+            return 1;
+        }
+        return 0;
+    }
+    let bytes = name_at(names, starts, n, wide(e) - 1).len();
+    if mark == 0 {
+        return bytes;
+    }
+    bytes + 1
+}
+
+// How many bytes the tree's term has.
+fn text_length(names: &[u8], starts: &[u16; 256], n: usize, tree: &[u16]) -> usize
+    requires { ⌜ Lined (now names) (now starts) n ⌝ }
+    requires { ⌜ AllNamed n (now tree) ⌝ }
+    ensures { λ r. ⌜ r ≡ length (lettered (now (names .entry)) 0 (now (tree .entry))) ⌝ }
+{
+    let mut sum: usize = 0;
+    let mut mark: u8 = 0;
+    let mut i: usize = 0;
+    while i < tree.len() {
+        let e = tree[i];
+        sum += entry_length(names, starts, n, mark, e);
+        mark = mark_after(e);
+        i += 1;
+    }
+    sum
+}
+
+// Puts the bytes at a place; gives the place after them.
+fn put_bytes(text: &mut [u8], at: usize, bytes: &[u8]) -> usize
+    requires { ⌜ at + length (now bytes) ≤ length (now text) ⌝ }
+    ensures { λ r. ⌜ Put (now (text .entry)) (now (text .exit)) (now (bytes .entry)) at r ⌝ }
+{
+    let mut i: usize = 0;
+    while i < bytes.len() {
+        text[at + i] = bytes[i];
+        i += 1;
+    }
+    at + i
+}
+
+// Puts the bytes of an entry at a place; gives the place after them.
+fn put_entry(
+    names: &[u8],
+    starts: &[u16; 256],
+    n: usize,
+    mark: u8,
+    e: u16,
+    text: &mut [u8],
+    at: usize,
+) -> usize
+    requires { ⌜ Lined (now names) (now starts) n ⌝ }
+    requires { ⌜ e ≤ n ⌝ }
+    requires { ⌜ at + length (lettering (now names) mark e) ≤ length (now text) ⌝ }
+    ensures { λ r. ⌜ Put (now (text .entry)) (now (text .exit)) (lettering (now (names .entry)) mark e) at r ⌝ }
+{
+    if e == 0 {
+        if mark == 44 {
+            text[at] = 41;
+            return at + 1;
+        }
+        return at;
+    }
+    let name = name_at(names, starts, n, wide(e) - 1);
+    if mark == 0 {
+        return put_bytes(text, at, name);
+    }
+    text[at] = mark;
+    put_bytes(text, at + 1, name)
+}
+
+// Puts the tree's term at the front of the list.
+fn put_text(names: &[u8], starts: &[u16; 256], n: usize, tree: &[u16], text: &mut [u8])
+    requires { ⌜ Lined (now names) (now starts) n ⌝ }
+    requires { ⌜ AllNamed n (now tree) ⌝ }
+    requires { ⌜ length (lettered (now names) 0 (now tree)) ≤ length (now text) ⌝ }
+    ensures { λ r. ⌜ Front (now (text .entry)) (now (text .exit)) (lettered (now (names .entry)) 0 (now (tree .entry))) ⌝ }
+{
+    let mut at: usize = 0;
+    let mut mark: u8 = 0;
+    let mut i: usize = 0;
+    while i < tree.len() {
+        let e = tree[i];
+        at = put_entry(names, starts, n, mark, e, &mut *text, at);
+        mark = mark_after(e);
+        i += 1;
+    }
+}
+
+// Writes the term of a tree whose symbols are all named, where there is room.
+fn write_letters(
+    names: &[u8],
+    starts: &[u16; 256],
+    n: usize,
+    tree: &[u16],
+    text: &mut [u8],
+) -> Answer
+    requires { ⌜ Lined (now names) (now starts) n ⌝ }
+    requires { ⌜ AllNamed n (now tree) ⌝ }
+    requires { ⌜ WellFormed (now tree) ⌝ }
+    ensures { λ r. ⌜ Gave (writeFits (now (names .entry)) (now (tree .entry)) (length (now (text .entry)))) (bytesOf (now (names .entry)) (now (tree .entry))) (now (text .entry)) (now (text .exit)) r ⌝ }
+{
+    let needed = text_length(names, starts, n, tree);
+    if text.len() < needed {
+        return Answer::Refused(Refusal {
+            place: needed as u64,
+            kind: Kind::ShortTextList,
+        });
+    }
+    put_text(names, starts, n, tree, text);
+    Answer::Result(needed as u64)
+}
+
+// Writes the term of a list that is a tree.
+fn write_formed(
+    names: &[u8],
+    starts: &[u16; 256],
+    n: usize,
+    tree: &[u16],
+    text: &mut [u8],
+) -> Answer
+    requires { ⌜ Lined (now names) (now starts) n ⌝ }
+    requires { ⌜ n ≡ howManyNames (now names) ⌝ }
+    requires { ⌜ WellFormed (now tree) × (length (now tree) ≤ 4096) ⌝ }
+    ensures { λ r. ⌜ Gave (writeNamed (now (names .entry)) (now (tree .entry)) (length (now (text .entry)))) (bytesOf (now (names .entry)) (now (tree .entry))) (now (text .entry)) (now (text .exit)) r ⌝ }
+{
+    match first_unnamed(tree, n) {
+        Found::At(place) => Answer::Refused(Refusal {
+            place: place as u64,
+            kind: Kind::UnnamedSymbol,
+        }),
+        Found::Nothing => write_letters(names, starts, n, tree, text),
+    }
+}
+
+// Writes a term by a names list that keeps to the rules.
+fn write_named(names: &[u8], starts: &[u16; 256], n: usize, tree: &[u16], text: &mut [u8]) -> Answer
+    requires { ⌜ Lined (now names) (now starts) n ⌝ }
+    requires { ⌜ n ≡ howManyNames (now names) ⌝ }
+    ensures { λ r. ⌜ Gave (writeFormed (now (names .entry)) (now (tree .entry)) (length (now (text .entry)))) (bytesOf (now (names .entry)) (now (tree .entry))) (now (text .entry)) (now (text .exit)) r ⌝ }
+{
+    match check_tree(tree) {
+        Form::Refuses(r) => Answer::Refused(r),
+        Form::Tree => write_formed(names, starts, n, tree, text),
+    }
+}
+
+// Writes a tree as a term: gives the count of bytes, which then stand at the front of the list.
+pub fn write_term(names: &[u8], tree: &[u16], text: &mut [u8]) -> Answer
+    ensures { λ r. ⌜ WriteTerm (now (names .entry)) (now (tree .entry)) (now (text .entry)) (now (text .exit)) r ⌝ }
+{
+    let mut starts = [0u16; 256];
+    let mut heads = [0u16; 512];
+    let mut next = [0u16; 256];
+    match check_names(names, &mut starts, &mut heads, &mut next) {
+        Names::Faulty(line) => Answer::Refused(Refusal {
+            place: line as u64,
+            kind: Kind::FaultyNames,
+        }),
+        Names::Sound(n) => write_named(names, &starts, n, tree, text),
+    }
+}

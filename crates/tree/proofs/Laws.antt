@@ -1,0 +1,152 @@
+-- The entries read so far, and what the entry at hand does. Assumes nothing.
+use Prim.Native.Nat.{ℕ, suc, _+_, _-_, _<_, _≤_}
+use mathlib.Core.Path.{_≡_, refl, sym, ap, _∙_}
+use mathlib.Core.Bool.{Bool, true, false, _&&_, _||_}
+use mathlib.Core.List.{List, [], _∷_, _++_}
+use native.Mathlib.Omega.{arith}
+use native.Mathlib.Numerals.{add-one}
+use lib.ListN.{length, getD, take}
+use lib.Seq.{take-suc, take-all}
+use mathlib.Core.Logic.{_⊎_, inl, inr}
+use lib.Dec.{eqb, ltb}
+use borrow.Author.Tests.{lt-ltb, le-ltb, eq-eqb, ne-eqb, ltb-true, ltb-false}
+use Rattle.model.specs.Answers.{Outcome, refused}
+use Rattle.model.specs.Choice.{if_then_else_}
+use Rattle.model.specs.Entries.{openAfter, openAt, entryGround, endsTooSoon, formOr, treeOr}
+use Rattle.model.proofs.Choice.{no-fault, first-fault, none-more, or-left, or-right}
+use Rattle.tree.specs.Reading.{fresh, stepOf}
+use Rattle.tree.specs.declared.Reading.{Reading}
+use Rattle.tree.specs.declared.Step.the-variants.{Opens, Closes, Refuses}
+
+-- the state after i entries, none of which was refused
+pub record Read (tree : List ℕ) (s : Reading) (i : ℕ) : Type 0 where
+  pub few : length tree ≤ 4096
+  pub within : i ≤ length tree
+  pub depth-is : s .depth ≡ openAt tree i
+  pub shallow : s .depth ≤ i
+  pub begun-is : s .begun ≡ ltb 0 i
+  pub sound : (j : ℕ) → j < i → entryGround tree j ≡ 0
+
+-- the three grounds of 13, together
+abbrev refusing : (depth e : ℕ) (begun : Bool) → Bool
+refusing depth e begun = ltb 255 e || (eqb e 0 && eqb depth 0) || (begun && eqb depth 0)
+
+-- what a step is, by its tests
+pub step-is : (s : Reading) (e : ℕ) (h z y b : Bool) → ltb 255 e ≡ h → eqb e 0 ≡ z → eqb (s .depth) 0 ≡ y → s .begun ≡ b
+    → stepOf s e ≡ (if h || (z && y) || (b && y) then Refuses else if z then Closes (record { depth = s .depth - 1; begun = true }) else Opens (record { depth = s .depth + 1; begun = true }))
+unfolding stepOf
+step-is s e h z y b p q r t = rw (p, q, r, t)
+
+-- how a step comes about
+opens-by : (t z : Bool) (x y n : Reading) → (if t then Refuses else if z then Closes x else Opens y) ≡ Opens n → (t ≡ false) × (z ≡ false) × (n ≡ y)
+opens-by true z x y n e = let w : _≡_ {A = ℕ} 0 1 = cc in absurd (omega arith)
+opens-by false true x y n e = let w : _≡_ {A = ℕ} 0 1 = cc in absurd (omega arith)
+opens-by false false x y n e = (refl, refl, cc)
+
+closes-by : (t z : Bool) (x y n : Reading) → (if t then Refuses else if z then Closes x else Opens y) ≡ Closes n → (t ≡ false) × (z ≡ true) × (n ≡ x)
+closes-by true z x y n e = let w : _≡_ {A = ℕ} 0 1 = cc in absurd (omega arith)
+closes-by false true x y n e = (refl, refl, cc)
+closes-by false false x y n e = let w : _≡_ {A = ℕ} 0 1 = cc in absurd (omega arith)
+
+refuses-by : (t z : Bool) (x y : Reading) → (if t then Refuses else if z then Closes x else Opens y) ≡ Refuses → t ≡ true
+refuses-by true z x y e = refl
+refuses-by false true x y e = let w : _≡_ {A = ℕ} 0 1 = cc in absurd (omega arith)
+refuses-by false false x y e = let w : _≡_ {A = ℕ} 0 1 = cc in absurd (omega arith)
+
+-- nodes open after two lists of entries
+open-append : (d : ℕ) (xs ys : List ℕ) → openAfter d (xs ++ ys) ≡ openAfter (openAfter d xs) ys
+unfolding openAfter
+open-append d [] ys = refl
+open-append d (e ∷ xs) ys = open-append (if eqb e 0 then d - 1 else suc d) xs ys
+
+open-next : (tree : List ℕ) (i : ℕ) → i < length tree → openAt tree (i + 1) ≡ (if eqb (getD tree i 0) 0 then openAt tree i - 1 else suc (openAt tree i))
+unfolding openAfter
+open-next tree i l = rw (add-one i, take-suc tree i 0 l) (open-append 0 (take i tree) (getD tree i 0 ∷ []))
+
+module _ {tree : List ℕ} {s : Reading} {i : ℕ} (r : Read tree s i) (l : i < length tree) where
+  -- 13 holds of the entry just where it is refused
+  ground-is : entryGround tree i ≡ (if refusing (s .depth) (getD tree i 0) (s .begun) then 13 else 0)
+  unfolding entryGround
+  ground-is = rw (r .depth-is, r .begun-is)
+
+  -- an entry that is not refused is read
+  went : (n : Reading) (z : Bool) → refusing (s .depth) (getD tree i 0) (s .begun) ≡ false → eqb (getD tree i 0) 0 ≡ z
+      → n .depth ≡ (if z then s .depth - 1 else s .depth + 1) → n .begun ≡ true → Read tree n (i + 1)
+  went n z t e d b = record {
+    few = r .few;
+    within = omega arith;
+    depth-is = d ∙ deep z (r .depth-is) ∙ sym (rw e at (open-next tree i l));
+    shallow = rw d (low z);
+    begun-is = b ∙ sym (lt-ltb 0 (i + 1) (omega arith));
+    sound = none-more i (entryGround tree) (r .sound) (rw t at ground-is);
+  }
+    where
+      deep : (z : Bool) → s .depth ≡ openAt tree i → (if z then s .depth - 1 else s .depth + 1) ≡ (if z then openAt tree i - 1 else suc (openAt tree i))
+      deep true e = ap (λ (x : ℕ). x - 1) e
+      deep false e = rw e (add-one (openAt tree i))
+
+      low : (z : Bool) → (if z then s .depth - 1 else s .depth + 1) ≤ i + 1
+      low true = omega (arith, r .shallow)
+      low false = omega (arith, r .shallow)
+
+  pub opened : (n : Reading) → stepOf s (getD tree i 0) ≡ Opens n → Read tree n (i + 1)
+  unfolding stepOf
+  opened n e =
+      let t = opens-by (refusing (s .depth) (getD tree i 0) (s .begun)) (eqb (getD tree i 0) 0) _ _ n e in
+      went n false (t .0) (t .1) (ap (λ (x : Reading). x .depth) (t .2)) (ap (λ (x : Reading). x .begun) (t .2))
+
+  pub shut : (n : Reading) → stepOf s (getD tree i 0) ≡ Closes n → Read tree n (i + 1)
+  unfolding stepOf
+  shut n e =
+      let t = closes-by (refusing (s .depth) (getD tree i 0) (s .begun)) (eqb (getD tree i 0) 0) _ _ n e in
+      went n true (t .0) (t .1) (ap (λ (x : Reading). x .depth) (t .2)) (ap (λ (x : Reading). x .begun) (t .2))
+
+  -- the entry is refused: it is the place of 13
+  pub refused-here : stepOf s (getD tree i 0) ≡ Refuses → (o : Outcome) → refused 13 i ≡ treeOr tree o
+  unfolding stepOf treeOr formOr
+  refused-here e o =
+      let t = refuses-by (refusing (s .depth) (getD tree i 0) (s .begun)) (eqb (getD tree i 0) 0) _ _ e in
+      let g : entryGround tree i ≡ 13 = rw t at ground-is in
+      let long : ltb 4096 (length tree) ≡ false = le-ltb 4096 (length tree) (r .few) in
+      rw long (sym (rw g at (first-fault (length tree) i (entryGround tree) (if endsTooSoon tree then refused 13 (length tree) else o) l (r .sound) (omega (arith, g)))))
+
+-- before the first entry
+pub begins : (tree : List ℕ) (s : Reading) → length tree ≤ 4096 → s ≡ fresh → Read tree s 0
+unfolding openAfter
+begins tree s l e = rw e (record { few = l; within = omega arith; depth-is = refl; shallow = omega arith; begun-is = refl; sound = λ j m. absurd (omega arith) })
+
+-- all entries are read: the root is closed, or the list ends too soon
+module _ {tree : List ℕ} {s : Reading} {i : ℕ} (r : Read tree s i) (ge : length tree ≤ i) where
+  full : i ≡ length tree
+  full = omega (arith, r .within)
+
+  depth-end : s .depth ≡ openAfter 0 tree
+  depth-end = r .depth-is ∙ ap (λ (xs : List ℕ). openAfter 0 xs) (take-all i tree ge)
+
+  after : (o : Outcome) → treeOr tree o ≡ (if endsTooSoon tree then refused 13 (length tree) else o)
+  unfolding treeOr formOr
+  after o =
+      let long : ltb 4096 (length tree) ≡ false = le-ltb 4096 (length tree) (r .few) in
+      let all : (j : ℕ) → j < length tree → entryGround tree j ≡ 0 = λ j m. r .sound j (omega (arith, full)) in
+      rw long (no-fault (length tree) (entryGround tree) (if endsTooSoon tree then refused 13 (length tree) else o) all)
+
+  pub is-tree : s .begun ≡ true → s .depth ≡ 0 → (o : Outcome) → o ≡ treeOr tree o
+  unfolding endsTooSoon
+  is-tree b d o =
+      let some = ltb-true 0 i (sym (r .begun-is) ∙ b) in
+      let none : eqb (length tree) 0 ≡ false = ne-eqb (length tree) 0 (λ z. omega (arith, full)) in
+      let low : ltb 0 (openAfter 0 tree) ≡ false = le-ltb 0 (openAfter 0 tree) (omega (arith, depth-end, d)) in
+      sym (rw (none, low) at (after o))
+
+  pub too-soon : (s .begun ≡ false) ⊎ (0 < s .depth) → (o : Outcome) → refused 13 i ≡ treeOr tree o
+  unfolding endsTooSoon
+  too-soon c o = rw full (sym (after o ∙ ap (λ (b : Bool). if b then refused 13 (length tree) else o) (ends c)))
+    where
+      ends : (s .begun ≡ false) ⊎ (0 < s .depth) → (eqb (length tree) 0 || ltb 0 (openAfter 0 tree)) ≡ true
+      ends (inl b) = or-left (eqb (length tree) 0) (ltb 0 (openAfter 0 tree)) (eq-eqb (length tree) 0 (omega (arith, full, ltb-false 0 i (sym (r .begun-is) ∙ b))))
+      ends (inr p) = or-right (eqb (length tree) 0) (ltb 0 (openAfter 0 tree)) (lt-ltb 0 (openAfter 0 tree) (omega (arith, depth-end)))
+
+-- more than 4,096 entries
+pub too-long : (tree : List ℕ) → 4096 < length tree → (o : Outcome) → refused 12 0 ≡ treeOr tree o
+unfolding treeOr
+too-long tree l o = rw (lt-ltb 4096 (length tree) l)

@@ -1,0 +1,2 @@
+-- What the reading of entries promises.
+pub mod Reading

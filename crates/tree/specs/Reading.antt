@@ -1,0 +1,33 @@
+-- Reading a tree entry by entry, as the code does. Assumes nothing: these are definitions.
+use Prim.Native.Nat.{ℕ, _+_, _-_}
+use mathlib.Core.Path.{_≡_}
+use mathlib.Core.Bool.{true, false, _&&_, _||_}
+use mathlib.Core.List.{List}
+use lib.Dec.{eqb, ltb}
+use Rattle.model.specs.Answers.{Outcome, refused, kindNumber}
+use Rattle.model.specs.Choice.{if_then_else_}
+use Rattle.model.specs.Entries.{treeOr}
+use Rattle.tree.specs.declared.Reading.{Reading}
+use Rattle.tree.specs.declared.Step.{Step}
+use Rattle.tree.specs.declared.Step.the-variants.{Opens, Closes, Refuses}
+use Rattle.tree.specs.declared.Form.{Form}
+use Rattle.tree.specs.declared.Form.the-variants.{Tree, Refuses as RefusesList}
+
+abbrev pub fresh : Reading
+fresh = record { depth = 0; begun = false }
+
+-- "each entry read opens a node, closes one, or is refused"
+unfoldable pub stepOf : Reading → ℕ → Step
+stepOf r e =
+    if ltb 255 e || (eqb e 0 && eqb (r .depth) 0) || (r .begun && eqb (r .depth) 0) then Refuses else
+    if eqb e 0 then Closes (record { depth = r .depth - 1; begun = true }) else
+    Opens (record { depth = r .depth + 1; begun = true })
+
+-- the refusal, or where the list is a tree what follows
+abbrev pub formThen : Form → Outcome → Outcome
+formThen Tree otherwise = otherwise
+formThen (RefusesList r) otherwise = refused (kindNumber (r .kind)) (r .place)
+
+-- the answer decides 12 and 13
+pub record Decides (entries : List ℕ) (f : Form) : Type 0 where
+  pub decided : (o : Outcome) → formThen f o ≡ treeOr entries o
