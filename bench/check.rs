@@ -1,25 +1,12 @@
 //! Compares `treenum_check` with the same check in plain Rust: the answers first, then the time and the stack.
 //! bench/run builds it and runs it; bench/README.md says what is measured.
 
-use std::arch::asm;
+mod common;
+
+use common::{answer, head, print_stack, refuse, stack_use, time, Answer, Draw, Fx, Met};
 use std::collections::hash_map::RandomState;
 use std::collections::HashSet;
-use std::hash::{BuildHasher, BuildHasherDefault, Hasher};
-use std::hint::black_box;
-use std::time::{Duration, Instant};
-
-const SAMPLES: usize = 31;
-const SAMPLE_TIME: Duration = Duration::from_millis(10);
-const STACK_GOAL: usize = 128 * 1024;
-
-/// The total, or the refusal.
-type Answer = Result<u64, Refusal>;
-
-#[derive(Clone, Copy, Debug, PartialEq, Eq)]
-struct Refusal {
-    number: u32,
-    place: u64,
-}
+use std::hash::{BuildHasher, BuildHasherDefault};
 
 #[derive(Clone, Default)]
 struct Table {
@@ -40,13 +27,6 @@ extern "C" {
         accepting_len: usize,
         value: *mut u64,
     ) -> u32;
-}
-
-fn answer(number: u32, value: u64) -> Answer {
-    match number {
-        0 => Ok(value),
-        _ => Err(Refusal { number, place: value }),
-    }
 }
 
 #[inline(never)]
@@ -73,10 +53,6 @@ const LIMIT: u64 = u32::MAX as u64;
 struct Row<'a> {
     target: usize,
     args: &'a [u16],
-}
-
-fn refuse(number: u32, place: usize) -> Answer {
-    Err(Refusal { number, place: place as u64 })
 }
 
 fn check<S: BuildHasher + Default>(states: u64, entries: &[u16], accepting: &[u16]) -> Answer {
@@ -183,77 +159,7 @@ fn plain_fx(table: &Table) -> Answer {
     check::<BuildHasherDefault<Fx>>(table.states, &table.rows, &table.accepting)
 }
 
-/// A hasher like FxHash, fast and not keyed.
-#[derive(Default)]
-struct Fx(u64);
-
-const FACTOR: u64 = 0x517c_c1b7_2722_0a95;
-
-impl Fx {
-    fn add(&mut self, word: u64) {
-        self.0 = (self.0.rotate_left(5) ^ word).wrapping_mul(FACTOR);
-    }
-}
-
-impl Hasher for Fx {
-    fn write(&mut self, bytes: &[u8]) {
-        let mut words = bytes.chunks_exact(8);
-        for word in &mut words {
-            self.add(u64::from_le_bytes(word.try_into().unwrap()));
-        }
-        let rest = words.remainder();
-        if !rest.is_empty() {
-            let mut word = [0; 8];
-            word[..rest.len()].copy_from_slice(rest);
-            self.add(u64::from_le_bytes(word));
-        }
-    }
-
-    fn write_u16(&mut self, x: u16) {
-        self.add(u64::from(x));
-    }
-
-    fn write_usize(&mut self, x: usize) {
-        self.add(x as u64);
-    }
-
-    fn finish(&self) -> u64 {
-        // The set takes the lowest and the highest bits, and the last argument has reached only the highest.
-        let product = u128::from(self.0) * u128::from(FACTOR);
-        product as u64 ^ (product >> 64) as u64
-    }
-}
-
 // Tables
-
-/// SplitMix64.
-struct Draw(u64);
-
-impl Draw {
-    fn next(&mut self) -> u64 {
-        self.0 = self.0.wrapping_add(0x9e37_79b9_7f4a_7c15);
-        let mut x = self.0;
-        x = (x ^ (x >> 30)).wrapping_mul(0xbf58_476d_1ce4_e5b9);
-        x = (x ^ (x >> 27)).wrapping_mul(0x94d0_49bb_1331_11eb);
-        x ^ (x >> 31)
-    }
-
-    /// A number from 0 to n - 1.
-    fn below(&mut self, n: usize) -> usize {
-        (self.next() % n as u64) as usize
-    }
-
-    /// A number from low to high, both among them.
-    fn between(&mut self, low: usize, high: usize) -> u16 {
-        (low + self.below(high - low + 1)) as u16
-    }
-
-    fn shuffle<T>(&mut self, items: &mut [T]) {
-        for i in (1..items.len()).rev() {
-            items.swap(i, self.below(i + 1));
-        }
-    }
-}
 
 /// A table under construction. It takes a row only if the table then passes the check.
 struct Maker {
@@ -536,119 +442,29 @@ fn compare(table: &Table) -> Answer {
 
 /// Compares the answers to so many small tables, most of them faulty, and prints how often each was met.
 fn compare_faulty(draw: &mut Draw, tables: usize) {
-    let mut met = [0; 12];
+    let mut met = Met::default();
     for _ in 0..tables {
-        met[compare(&faulty(draw)).map_or_else(|refusal| refusal.number as usize, |_| 0)] += 1;
+        met.count(compare(&faulty(draw)));
     }
     println!("{tables} small tables: the answers are equal, number and place");
-    let each: Vec<String> = met.iter().enumerate().map(|(number, times)| format!("{number}: {times}")).collect();
-    println!("  met (0 for a total) {}", each.join(", "));
     // 7 comes before 8, so 8 is never given.
-    assert!(met.iter().enumerate().all(|(number, &times)| (times > 0) == (number != 8)));
+    met.print(&[0, 1, 2, 3, 4, 5, 6, 7, 9, 10, 11]);
 }
 
-// The time
-
-fn pass(run: fn(&Table) -> Answer, tables: &[Table], rounds: usize) -> Duration {
-    let start = Instant::now();
-    for _ in 0..rounds {
-        for table in tables {
-            let _ = black_box(run(black_box(table)));
-        }
-    }
-    start.elapsed()
-}
-
-/// Nanoseconds for one check.
-fn sample(run: fn(&Table) -> Answer, tables: &[Table], rounds: usize) -> f64 {
-    pass(run, tables, rounds).as_nanos() as f64 / (rounds * tables.len()) as f64
-}
-
-/// So many rounds that a sample takes long enough.
-fn rounds(run: fn(&Table) -> Answer, tables: &[Table]) -> usize {
-    let mut rounds = 1;
-    loop {
-        let time = pass(run, tables, rounds);
-        if time >= SAMPLE_TIME {
-            return rounds;
-        }
-        rounds = if time < SAMPLE_TIME / 20 {
-            rounds * 10
-        } else {
-            (rounds as f64 * 1.1 * SAMPLE_TIME.div_duration_f64(time)).ceil() as usize
-        };
-    }
-}
-
-fn median(mut xs: Vec<f64>) -> f64 {
-    xs.sort_by(f64::total_cmp);
-    xs[xs.len() / 2]
-}
-
-fn time(name: &str, goal: Option<f64>, tables: &[Table]) {
-    const RUNS: [fn(&Table) -> Answer; 3] = [library, plain, plain_fx];
-    let rounds = RUNS.map(|run| rounds(run, tables));
-    let mut times = [vec![], vec![], vec![]];
-    for i in 0..SAMPLES {
-        // Each in turn goes first.
-        for j in 0..3 {
-            let k = (i + j) % 3;
-            times[k].push(sample(RUNS[k], tables, rounds[k]));
-        }
-    }
-    let ratios = |k: usize| -> Vec<f64> { times[0].iter().zip(&times[k]).map(|(a, b)| a / b).collect() };
-    let mut spread = ratios(1);
-    spread.sort_by(f64::total_cmp);
-    let ratio = median(ratios(1));
-    let verdict = match goal {
-        Some(goal) if ratio <= goal => format!("{goal:.1} met"),
-        Some(goal) => format!("{goal:.1} MISSED"),
-        None => "-".to_string(),
-    };
-    println!(
-        "{name:<40} {:>9.2} {:>9.2} {:>9.2} {:>8.2} {:>13} {:>8.2}  {verdict}",
-        median(times[0].clone()) / 1000.0,
-        median(times[1].clone()) / 1000.0,
-        median(times[2].clone()) / 1000.0,
-        ratio,
-        format!("{:.2}-{:.2}", spread[SAMPLES / 4], spread[SAMPLES - 1 - SAMPLES / 4]),
-        median(ratios(2)),
-    );
-}
-
-// The stack
-
-/// Calls the library on a stack of its own, filled with `paint`, and finds how many bytes of it the call changed,
-/// from the return address on down.
-fn stack_use(table: &Table, paint: u8) -> usize {
-    let mut stack = vec![u128::from_ne_bytes([paint; 16]); 1 << 16];
-    let mut value = 0u64;
-    let number: u32;
-    // Sound: the stack is 16-byte aligned and larger than what a call may use, and r12 keeps the old one.
-    unsafe {
-        asm!(
-            "mov r12, rsp",
-            "mov rsp, r13",
-            "call {f}",
-            "mov rsp, r12",
-            f = sym treenum_check,
-            in("r13") stack.as_mut_ptr_range().end,
-            out("r12") _,
-            in("rdi") table.states,
-            in("rsi") table.rows.as_ptr(),
-            in("rdx") table.rows.len(),
-            in("rcx") table.accepting.as_ptr(),
-            in("r8") table.accepting.len(),
-            in("r9") &mut value,
-            lateout("eax") number,
-            clobber_abi("C"),
-        );
-    }
-    assert_eq!(answer(number, value), plain(table));
-    let bytes = stack.iter().flat_map(|x| x.to_ne_bytes());
-    let untouched = bytes.take_while(|&byte| byte == paint).count();
-    assert!(untouched > 0);
-    stack.len() * 16 - untouched
+/// The stack of a call of treenum_check.
+fn stack(table: &Table) -> usize {
+    let (rows, accepting) = (&table.rows, &table.accepting);
+    let words = [
+        table.states as usize,
+        rows.as_ptr() as usize,
+        rows.len(),
+        accepting.as_ptr() as usize,
+        accepting.len(),
+        0,
+        0,
+    ];
+    // Sound: as in `library`; the sixth word is where the value is put.
+    unsafe { stack_use(treenum_check as *const (), words, 5, plain(table)) }
 }
 
 fn main() {
@@ -679,25 +495,11 @@ fn main() {
     );
     compare_faulty(&mut draw, 50_000);
 
-    let stack = cases
-        .iter()
-        .flat_map(|case| &case.2)
-        .flat_map(|table| [0xa5, 0x5a].map(|paint| stack_use(table, paint)))
-        .max()
-        .unwrap();
-    println!(
-        "stack of one call of treenum_check: {stack} bytes at most, goal {STACK_GOAL}: {}",
-        if stack <= STACK_GOAL { "met" } else { "MISSED" }
-    );
+    let most = cases.iter().flat_map(|case| &case.2).map(stack).max().unwrap();
+    print_stack("treenum_check", most);
 
-    println!();
-    println!("microseconds a check: medians of {SAMPLES} samples");
-    println!("ratios of the library's time to plain Rust's: medians of the samples' ratios");
-    println!(
-        "{:<40} {:>9} {:>9} {:>9} {:>8} {:>13} {:>8}  {}",
-        "table", "library", "std hash", "fx hash", "/ std", "middle half", "/ fx", "goal (/ std)"
-    );
+    head("check", "table");
     for (name, goal, tables) in &cases {
-        time(name, *goal, tables);
+        time(name, *goal, tables, [&mut library, &mut plain, &mut plain_fx]);
     }
 }

@@ -2,22 +2,13 @@
 use Prim.Native.Nat.{ℕ, _<_}
 use mathlib.Core.Path.{_≡_, refl, sym, ap, _∙_}
 use native.Mathlib.Omega.{arith}
-use Rattle.model.specs.declared.Answer.{Answer}
-use Rattle.model.specs.declared.Answer.the-variants.{Result, Refused}
-use Rattle.model.specs.declared.Refusal.{Refusal}
-use Rattle.model.specs.Answers.{Outcome, result, refused, outcome, kindNumber}
+use Rattle.model.specs.Answers.{Outcome, result, refused}
 use Rattle.model.proofs.Positive.{Positive}
 use Rattle.treenum_c.specs.Returned.{numberFor, valueFor, Returned}
 
-pub gave : {o : Outcome} {a : Answer} {n : ℕ} → outcome a ≡ o → a ≡ Result n → Returned o 0 n
-gave e h =
-    let z = ap outcome (sym h) ∙ e in
-    record { number-is = ap numberFor z; value-is = ap valueFor z }
-
-pub turned-away : {o : Outcome} {a : Answer} {r : Refusal} {number : ℕ} → outcome a ≡ o → a ≡ Refused r → number ≡ kindNumber (r .kind) → Returned o number (r .place)
-turned-away e h k =
-    let z = ap outcome (sym h) ∙ e in
-    record { number-is = k ∙ ap numberFor z; value-is = ap valueFor z }
+-- an outcome told in other words
+pub told : {o o′ : Outcome} {number value : ℕ} → o ≡ o′ → Returned o number value → Returned o′ number value
+told e x = record { number-is = x .number-is ∙ ap numberFor e; value-is = x .value-is ∙ ap valueFor e }
 
 -- a caller who gets 0 has the result, where no refusal has the number 0 (of the operations: Rattle.model.proofs.Positive), and one who gets
 -- another number has the refusal of that number

@@ -1,9 +1,27 @@
 // The C interface: one exported function an operation (include/treenum.h).
 use model::Answer;
 ghost use lib.ListN.{length};
+ghost use Rattle.model.specs.Answers.{outcome};
 ghost use Rattle.model.specs.Check.{checkOutcome};
 ghost use Rattle.model.specs.TermOperations.{readTermOutcome, readTermList, writeTermOutcome, writeTermList};
 ghost use Rattle.treenum_c.specs.Returned.{Returned, Left};
+
+// Returns 0 and puts the result, or returns the refusal's number and puts its place.
+fn give(answer: Answer, value: &mut u64) -> u32
+    ensures { λ r. ⌜ Returned (outcome answer) r (now (value .exit)) ⌝ }
+{
+    match answer {
+        Answer::Result(n) => {
+            *value = n;
+            0
+        }
+        Answer::Refused(r) => {
+            let kind = r.kind;
+            *value = r.place;
+            model::kind_number(kind)
+        }
+    }
+}
 
 // Checks a table: returns 0 and puts the total, or returns the refusal's number and puts its place.
 #[no_mangle]
@@ -15,17 +33,7 @@ pub extern "C" fn treenum_check(
 ) -> u32
     ensures { λ r. ⌜ Returned (checkOutcome states (now (rows .entry)) (now (accepting .entry))) r (now (value .exit)) ⌝ }
 {
-    match table::check(states, rows, accepting) {
-        Answer::Result(total) => {
-            *value = total;
-            0
-        }
-        Answer::Refused(r) => {
-            let kind = r.kind;
-            *value = r.place;
-            model::kind_number(kind)
-        }
-    }
+    give(table::check(states, rows, accepting), value)
 }
 
 // Reads a term: returns 0, puts the count of the tree's entries and leaves them at the front of the list; or returns the
@@ -39,17 +47,7 @@ pub extern "C" fn treenum_read_term(
 ) -> u32
     ensures { λ r. ⌜ Left (readTermOutcome (now (names .entry)) (now (text .entry)) (length (now (tree .entry)))) (readTermList (now (names .entry)) (now (text .entry)) (now (tree .entry))) r (now (value .exit)) (now (tree .exit)) ⌝ }
 {
-    match term::read_term(names, text, tree) {
-        Answer::Result(count) => {
-            *value = count;
-            0
-        }
-        Answer::Refused(r) => {
-            let kind = r.kind;
-            *value = r.place;
-            model::kind_number(kind)
-        }
-    }
+    give(term::read_term(names, text, tree), value)
 }
 
 // Writes a tree as a term: returns 0, puts the count of bytes and leaves them at the front of the list; or returns the
@@ -63,15 +61,5 @@ pub extern "C" fn treenum_write_term(
 ) -> u32
     ensures { λ r. ⌜ Left (writeTermOutcome (now (names .entry)) (now (tree .entry)) (length (now (text .entry)))) (writeTermList (now (names .entry)) (now (tree .entry)) (now (text .entry))) r (now (value .exit)) (now (text .exit)) ⌝ }
 {
-    match term::write_term(names, tree, text) {
-        Answer::Result(count) => {
-            *value = count;
-            0
-        }
-        Answer::Refused(r) => {
-            let kind = r.kind;
-            *value = r.place;
-            model::kind_number(kind)
-        }
-    }
+    give(term::write_term(names, tree, text), value)
 }

@@ -1,0 +1,559 @@
+//! Compares `treenum_read_term` and `treenum_write_term` with the same operations in plain Rust: the answers and the
+//! lists first, then the time and the stack. bench/run builds it and runs it; bench/README.md says what is measured.
+
+mod common;
+
+use common::{answer, head, print_stack, refuse, stack_use, time, Answer, Draw, Fx, Met, Refusal};
+use std::collections::hash_map::{Entry, RandomState};
+use std::collections::HashMap;
+use std::hash::{BuildHasher, BuildHasherDefault};
+
+const MOST_ENTRIES: usize = 4096;
+const MOST_BYTES: usize = 65536;
+
+/// What both operations are timed on: a names list, a tree, and its term.
+struct Pair {
+    names: Vec<u8>,
+    tree: Vec<u16>,
+    text: Vec<u8>,
+}
+
+type Read = fn(&[u8], &[u8], &mut [u16]) -> Answer;
+type Write = fn(&[u8], &[u16], &mut [u8]) -> Answer;
+
+// The library
+
+#[link(name = "treenum_c", kind = "static")]
+extern "C" {
+    fn treenum_read_term(
+        names: *const u8,
+        names_len: usize,
+        text: *const u8,
+        text_len: usize,
+        tree: *mut u16,
+        tree_len: usize,
+        value: *mut u64,
+    ) -> u32;
+
+    fn treenum_write_term(
+        names: *const u8,
+        names_len: usize,
+        tree: *const u16,
+        tree_len: usize,
+        text: *mut u8,
+        text_len: usize,
+        value: *mut u64,
+    ) -> u32;
+}
+
+#[inline(never)]
+fn library_read(names: &[u8], text: &[u8], tree: &mut [u16]) -> Answer {
+    let mut value = 0;
+    // Sound: a slice's pointer is aligned and not null, also for a length of 0.
+    let number = unsafe {
+        treenum_read_term(
+            names.as_ptr(),
+            names.len(),
+            text.as_ptr(),
+            text.len(),
+            tree.as_mut_ptr(),
+            tree.len(),
+            &mut value,
+        )
+    };
+    answer(number, value)
+}
+
+#[inline(never)]
+fn library_write(names: &[u8], tree: &[u16], text: &mut [u8]) -> Answer {
+    let mut value = 0;
+    // Sound: as above.
+    let number = unsafe {
+        treenum_write_term(
+            names.as_ptr(),
+            names.len(),
+            tree.as_ptr(),
+            tree.len(),
+            text.as_mut_ptr(),
+            text.len(),
+            &mut value,
+        )
+    };
+    answer(number, value)
+}
+
+// The same operations in plain Rust
+
+fn is_name_byte(b: &u8) -> bool {
+    b.is_ascii_alphanumeric() || *b == b'-' || *b == b'_'
+}
+
+fn is_name(name: &[u8]) -> bool {
+    (1..=24).contains(&name.len()) && name[0].is_ascii_alphabetic() && name.iter().all(is_name_byte)
+}
+
+/// The symbol of each name.
+fn symbols<S: BuildHasher + Default>(names: &[u8]) -> Result<HashMap<&[u8], u16, S>, Refusal> {
+    let mut symbols = HashMap::with_capacity_and_hasher((names.len() / 2).min(255), S::default());
+    for (line, bytes) in names.split_inclusive(|&b| b == 10).enumerate() {
+        let Some(name) = bytes.strip_suffix(&[10]) else {
+            return refuse(17, line);
+        };
+        if line >= 255 || !is_name(name) {
+            return refuse(17, line);
+        }
+        match symbols.entry(name) {
+            Entry::Occupied(_) => return refuse(17, line),
+            Entry::Vacant(entry) => entry.insert(line as u16 + 1),
+        };
+    }
+    if symbols.is_empty() {
+        return refuse(17, 0);
+    }
+    Ok(symbols)
+}
+
+fn read<S: BuildHasher + Default>(names: &[u8], text: &[u8], tree: &mut [u16]) -> Answer {
+    let symbols = symbols::<S>(names)?;
+    if text.len() > MOST_BYTES {
+        return refuse(18, 0);
+    }
+    let mut entries = Vec::with_capacity((2 * text.len()).min(MOST_ENTRIES));
+    let mut unlisted = None;
+    let mut depth = 0;
+    let mut at = 0;
+    // In each turn a name is due.
+    'text: loop {
+        let run = &text[at..];
+        if !run.first().is_some_and(u8::is_ascii_alphabetic) {
+            return refuse(19, at);
+        }
+        let name = &run[..run.iter().position(|b| !is_name_byte(b)).unwrap_or(run.len())];
+        if name.len() > 24 {
+            return refuse(19, at + 24);
+        }
+        match symbols.get(name) {
+            Some(&symbol) => entries.push(symbol),
+            None => unlisted = unlisted.or(Some(at)),
+        }
+        at += name.len();
+        if text.get(at) == Some(&b'(') {
+            depth += 1;
+            at += 1;
+            continue;
+        }
+        entries.push(0);
+        while depth > 0 {
+            match text.get(at) {
+                Some(b',') => {
+                    at += 1;
+                    continue 'text;
+                }
+                Some(b')') => {
+                    depth -= 1;
+                    at += 1;
+                    entries.push(0);
+                }
+                _ => return refuse(19, at),
+            }
+        }
+        if at < text.len() {
+            return refuse(19, at);
+        }
+        break;
+    }
+    if let Some(place) = unlisted {
+        return refuse(20, place);
+    }
+    if entries.len() > MOST_ENTRIES {
+        return refuse(21, 0);
+    }
+    let Some(front) = tree.get_mut(..entries.len()) else {
+        return refuse(22, entries.len());
+    };
+    front.copy_from_slice(&entries);
+    Ok(entries.len() as u64)
+}
+
+fn write<S: BuildHasher + Default>(names: &[u8], tree: &[u16], text: &mut [u8]) -> Answer {
+    let symbols = symbols::<S>(names)?;
+    if tree.len() > MOST_ENTRIES {
+        return refuse(12, 0);
+    }
+    let mut depth = 0;
+    for (place, &entry) in tree.iter().enumerate() {
+        if entry > 255 || (depth == 0 && (entry == 0 || place > 0)) {
+            return refuse(13, place);
+        }
+        if entry == 0 {
+            depth -= 1;
+        } else {
+            depth += 1;
+        }
+    }
+    if tree.is_empty() || depth > 0 {
+        return refuse(13, tree.len());
+    }
+    if let Some(place) = tree.iter().position(|&entry| usize::from(entry) > symbols.len()) {
+        return refuse(23, place);
+    }
+    let mut by_symbol: Vec<&[u8]> = vec![&[]; symbols.len() + 1];
+    for (name, &symbol) in &symbols {
+        by_symbol[usize::from(symbol)] = name;
+    }
+    let mut bytes = Vec::with_capacity(16 * tree.len());
+    let mut before = None;
+    for &entry in tree {
+        match (before, entry) {
+            // A leaf has no brackets.
+            (Some(1..), 0) | (None, _) => {}
+            (Some(0), 0) => bytes.push(b')'),
+            (Some(0), _) => bytes.push(b','),
+            (Some(_), _) => bytes.push(b'('),
+        }
+        bytes.extend_from_slice(by_symbol[usize::from(entry)]);
+        before = Some(entry);
+    }
+    let Some(front) = text.get_mut(..bytes.len()) else {
+        return refuse(24, bytes.len());
+    };
+    front.copy_from_slice(&bytes);
+    Ok(bytes.len() as u64)
+}
+
+type FxState = BuildHasherDefault<Fx>;
+
+#[inline(never)]
+fn plain_read(names: &[u8], text: &[u8], tree: &mut [u16]) -> Answer {
+    read::<RandomState>(names, text, tree)
+}
+
+#[inline(never)]
+fn plain_read_fx(names: &[u8], text: &[u8], tree: &mut [u16]) -> Answer {
+    read::<FxState>(names, text, tree)
+}
+
+#[inline(never)]
+fn plain_write(names: &[u8], tree: &[u16], text: &mut [u8]) -> Answer {
+    write::<RandomState>(names, tree, text)
+}
+
+#[inline(never)]
+fn plain_write_fx(names: &[u8], tree: &[u16], text: &mut [u8]) -> Answer {
+    write::<FxState>(names, tree, text)
+}
+
+// Names, trees and terms
+
+const LETTERS: &[u8] = b"ABCDEFGHIJKLMNOPQRSTUVWXYZabcdefghijklmnopqrstuvwxyz";
+const NAME_BYTES: &[u8] = b"ABCDEFGHIJKLMNOPQRSTUVWXYZabcdefghijklmnopqrstuvwxyz0123456789-_";
+
+fn name(draw: &mut Draw, length: usize) -> Vec<u8> {
+    let mut name = vec![LETTERS[draw.below(LETTERS.len())]];
+    name.resize_with(length, || NAME_BYTES[draw.below(NAME_BYTES.len())]);
+    name
+}
+
+/// So many names, all different.
+fn names_list(draw: &mut Draw, count: usize, make: &mut dyn FnMut(&mut Draw) -> Vec<u8>) -> Vec<Vec<u8>> {
+    let mut names: Vec<Vec<u8>> = vec![];
+    while names.len() < count {
+        let name = make(draw);
+        if !names.contains(&name) {
+            names.push(name);
+        }
+    }
+    names
+}
+
+/// 255 names of 1 to 24 bytes.
+fn mixed(draw: &mut Draw) -> Vec<Vec<u8>> {
+    names_list(draw, 255, &mut |draw| {
+        let length = draw.between(1, 24).into();
+        name(draw, length)
+    })
+}
+
+/// 255 names of 24 bytes that differ in the last three.
+fn alike(draw: &mut Draw) -> Vec<Vec<u8>> {
+    let first = name(draw, 21);
+    names_list(draw, 255, &mut |draw| [&first[..], &name(draw, 4)[1..]].concat())
+}
+
+/// The bucket of a name: the hash of crates/names/src/lib.rt.
+fn bucket(name: &[u8]) -> u64 {
+    let h = name.iter().fold(0, |h, &b| (h * 2654435769 + u64::from(b)) % 4294967296);
+    h * 2654435769 % 4294967296 / 8388608
+}
+
+/// The same, with names that all fall into one bucket.
+fn one_bucket(draw: &mut Draw) -> Vec<Vec<u8>> {
+    let first = name(draw, 21);
+    let b = draw.below(512) as u64;
+    names_list(draw, 255, &mut |draw| loop {
+        let name = [&first[..], &name(draw, 4)[1..]].concat();
+        if bucket(&name) == b {
+            return name;
+        }
+    })
+}
+
+/// A tree of so many nodes, every shape as likely as any other.
+fn random_tree(draw: &mut Draw, nodes: usize, names: usize) -> Vec<u16> {
+    // Below the root each node opens once and closes once, and the last bar is the root's. Of the rotations of such a
+    // list exactly one never closes more than it has opened before its end.
+    let mut opens: Vec<bool> = (1..2 * nodes).map(|i| i < nodes).collect();
+    draw.shuffle(&mut opens);
+    let (mut depth, mut lowest, mut start) = (0, 0, 0);
+    for (i, &open) in opens.iter().enumerate() {
+        depth += if open { 1 } else { -1 };
+        if depth < lowest {
+            (lowest, start) = (depth, i + 1);
+        }
+    }
+    opens.rotate_left(start % (2 * nodes - 1));
+    opens.insert(0, true);
+    opens.iter().map(|&open| if open { draw.between(1, names) } else { 0 }).collect()
+}
+
+/// A tree in which every node but the last has one child.
+fn chain(draw: &mut Draw, nodes: usize, names: usize) -> Vec<u16> {
+    (0..nodes).map(|_| draw.between(1, names)).chain(vec![0; nodes]).collect()
+}
+
+fn pair(names: Vec<Vec<u8>>, tree: Vec<u16>) -> Pair {
+    let mut text = vec![];
+    for (place, &entry) in tree.iter().enumerate() {
+        let before = place.checked_sub(1).map(|before| tree[before]);
+        let mark = match (before, entry) {
+            (Some(0), 0) => ")",
+            (Some(0), _) => ",",
+            (Some(_), 1..) => "(",
+            _ => "",
+        };
+        text.extend(mark.bytes());
+        if entry > 0 {
+            text.extend(&names[usize::from(entry) - 1]);
+        }
+    }
+    let names = names.into_iter().flat_map(|name| [name, vec![10]].concat()).collect();
+    Pair { names, tree, text }
+}
+
+/// 4,096 entries by 255 names.
+fn large(draw: &mut Draw, names: fn(&mut Draw) -> Vec<Vec<u8>>) -> Pair {
+    let names = names(draw);
+    let tree = random_tree(draw, 2048, 255);
+    pair(names, tree)
+}
+
+/// The line that document 01 takes from the paper.
+fn clerk() -> Pair {
+    pair(vec![b"a".to_vec(), b"b".to_vec()], vec![2, 2, 1, 0, 2, 0, 0, 1, 2, 0, 2, 0, 0, 2, 0, 0])
+}
+
+/// Removes, changes or adds one item, or cuts the list off.
+fn damage<T: Copy>(draw: &mut Draw, list: &mut Vec<T>, with: &[T]) {
+    let (at, with) = (draw.below(list.len() + 1), with[draw.below(with.len())]);
+    match draw.below(4) {
+        0 => list.truncate(at),
+        1 => list.insert(at, with),
+        _ if at == list.len() => list.push(with),
+        2 => list[at] = with,
+        _ => {
+            list.remove(at);
+        }
+    }
+}
+
+/// A small pair of which any answer is likely, its parts not always of one another.
+fn faulty(draw: &mut Draw) -> Pair {
+    let nodes = match draw.below(20) {
+        0 => 2046 + draw.below(5),
+        _ => 1 + draw.below(12),
+    };
+    let count = match draw.below(40) {
+        0 => 253 + draw.below(5),
+        _ => 1 + draw.below(8),
+    };
+    let longest = [2, 5, 24, 26][draw.below(4)];
+    let short = if longest == 26 { 23 } else { 1 };
+    let names = names_list(draw, count, &mut |draw| {
+        let length = draw.between(short, longest + count / 100).into();
+        name(draw, length)
+    });
+    let tree = match draw.below(4) {
+        0 => chain(draw, nodes, count),
+        _ => random_tree(draw, nodes, count),
+    };
+    let mut pair = pair(names, tree);
+    for _ in 0..draw.below(3) {
+        match draw.below(9) {
+            0 => damage(draw, &mut pair.names, b"ab0-_ \n\n(.@[`{/:"),
+            1 => pair.names = pair.names.split_inclusive(|&b| b == 10).rev().flatten().copied().collect(),
+            2 => {
+                let lines: Vec<&[u8]> = pair.names.split_inclusive(|&b| b == 10).collect();
+                pair.names = lines[..draw.below(lines.len() + 1)].concat();
+            }
+            3 => {
+                let lines: Vec<&[u8]> = pair.names.split_inclusive(|&b| b == 10).collect();
+                if !lines.is_empty() {
+                    pair.names = [&pair.names, lines[draw.below(lines.len())]].concat();
+                }
+            }
+            4 | 5 => damage(draw, &mut pair.text, b"ab0-_(),() \n.@[`{/:"),
+            6 | 7 => damage(draw, &mut pair.tree, &[0, 0, 0, 1, 2, 9, 254, 255, 256, 65535]),
+            _ => {
+                let bytes = MOST_BYTES - 2 + draw.below(4);
+                // Open brackets only, or a term of almost as many names as there can be.
+                pair.text = match draw.below(2) {
+                    0 => b"a(".repeat(MOST_BYTES)[..bytes].to_vec(),
+                    _ => [&b"a("[..], &b"a,".repeat(bytes / 2 - 2), b"a)"].concat(),
+                };
+            }
+        }
+    }
+    pair
+}
+
+// The answers
+
+fn differ(operation: &str, pair: &Pair) -> ! {
+    println!("{operation}: the answers or the lists differ");
+    let names = String::from_utf8_lossy(&pair.names);
+    let text = String::from_utf8_lossy(&pair.text);
+    println!("names {names:?}, tree {:?}, text {text:?}", pair.tree);
+    std::process::exit(1);
+}
+
+/// The answer of reading the text into so many entries.
+fn compare_read(pair: &Pair, room: usize) -> Answer {
+    let mut expected = vec![777; room];
+    let answer = plain_read(&pair.names, &pair.text, &mut expected);
+    for read in [library_read as Read, plain_read_fx] {
+        let mut tree = vec![777; room];
+        if read(&pair.names, &pair.text, &mut tree) != answer || tree != expected {
+            differ("reading", pair);
+        }
+    }
+    if answer.is_err() && expected.iter().any(|&entry| entry != 777) {
+        differ("reading", pair);
+    }
+    answer
+}
+
+/// The answer of writing the tree into so many bytes.
+fn compare_write(pair: &Pair, room: usize) -> Answer {
+    let mut expected = vec![b'?'; room];
+    let answer = plain_write(&pair.names, &pair.tree, &mut expected);
+    for write in [library_write as Write, plain_write_fx] {
+        let mut text = vec![b'?'; room];
+        if write(&pair.names, &pair.tree, &mut text) != answer || text != expected {
+            differ("writing", pair);
+        }
+    }
+    if answer.is_err() && expected.iter().any(|&b| b != b'?') {
+        differ("writing", pair);
+    }
+    answer
+}
+
+/// Compares the answers to so many small inputs, many of them faulty, and prints how often each was met.
+fn compare_faulty(draw: &mut Draw, inputs: usize) {
+    let (mut reading, mut writing) = (Met::default(), Met::default());
+    for _ in 0..inputs {
+        let pair = faulty(draw);
+        // Now and then the list is too short, mostly by little.
+        let room = |draw: &mut Draw, length: usize| match draw.below(8) {
+            0 => draw.below(length + 1),
+            1 => length.saturating_sub(1),
+            2 => length,
+            _ => length + draw.below(8),
+        };
+        let entries = 2 * pair.text.split(|b| !is_name_byte(b)).filter(|run| !run.is_empty()).count();
+        reading.count(compare_read(&pair, room(draw, entries.min(MOST_ENTRIES))));
+        writing.count(compare_write(&pair, room(draw, pair.text.len())));
+    }
+    println!("{inputs} small inputs: the answers are equal, number and place, and so are the lists");
+    reading.print(&[0, 17, 18, 19, 20, 21, 22]);
+    writing.print(&[0, 12, 13, 17, 23, 24]);
+}
+
+// The time and the stack
+
+fn reading(read: Read) -> impl FnMut(&Pair) -> Answer {
+    let mut tree = vec![0; MOST_ENTRIES];
+    move |pair| read(&pair.names, &pair.text, &mut tree)
+}
+
+fn writing(write: Write) -> impl FnMut(&Pair) -> Answer {
+    let mut text = vec![0; MOST_BYTES];
+    move |pair| write(&pair.names, &pair.tree, &mut text)
+}
+
+/// The stack of a call of treenum_read_term, and of one of treenum_write_term.
+fn stacks(pair: &Pair) -> (usize, usize) {
+    let Pair { names, tree, text } = pair;
+    let mut read = vec![0u16; tree.len()];
+    let mut written = vec![0u8; text.len()];
+    let words = [names.as_ptr() as usize, names.len(), text.as_ptr() as usize, text.len()];
+    let to_read = [words[0], words[1], words[2], words[3], read.as_mut_ptr() as usize, read.len(), 0];
+    let words = [tree.as_ptr() as usize, tree.len(), written.as_mut_ptr() as usize, written.len()];
+    let to_write = [names.as_ptr() as usize, names.len(), words[0], words[1], words[2], words[3], 0];
+    // Sound: as in `library_read`; the seventh word is where the value is put.
+    unsafe {
+        (
+            stack_use(treenum_read_term as *const (), to_read, 6, Ok(tree.len() as u64)),
+            stack_use(treenum_write_term as *const (), to_write, 6, Ok(text.len() as u64)),
+        )
+    }
+}
+
+fn main() {
+    let mut draw = Draw(1);
+    let mut pairs = |n: usize, make: fn(&mut Draw) -> Pair| -> Vec<Pair> { (0..n).map(|_| make(&mut draw)).collect() };
+    let cases = [
+        ("255 names of 1 to 24 bytes", Some(5.0), pairs(8, |draw| large(draw, mixed))),
+        ("255 names of 24 bytes, 21 shared", None, pairs(8, |draw| large(draw, alike))),
+        (
+            "255 names, nested 2,048 deep",
+            None,
+            pairs(8, |draw| {
+                let names = mixed(draw);
+                pair(names, chain(draw, 2048, 255))
+            }),
+        ),
+        ("2 names, a clerk's line", None, vec![clerk()]),
+        ("255 names of 24 bytes, one bucket", None, pairs(2, |draw| large(draw, one_bucket))),
+    ];
+
+    for (name, _, pairs) in &cases {
+        for pair in pairs {
+            assert_eq!(compare_read(pair, MOST_ENTRIES), Ok(pair.tree.len() as u64), "{name}");
+            assert_eq!(compare_write(pair, MOST_BYTES), Ok(pair.text.len() as u64), "{name}");
+            let (mut tree, mut text) = (vec![0; pair.tree.len()], vec![0; pair.text.len()]);
+            assert!(plain_read(&pair.names, &pair.text, &mut tree).is_ok() && tree == pair.tree, "{name}");
+            assert!(plain_write(&pair.names, &pair.tree, &mut text).is_ok() && text == pair.text, "{name}");
+        }
+    }
+    println!(
+        "{} timed inputs: the answers and the lists are equal, and none is a refusal",
+        cases.iter().map(|case| case.2.len()).sum::<usize>()
+    );
+    compare_faulty(&mut draw, 50_000);
+
+    let (read, written): (Vec<_>, Vec<_>) = cases.iter().flat_map(|case| &case.2).map(stacks).unzip();
+    print_stack("treenum_read_term", read.into_iter().max().unwrap());
+    print_stack("treenum_write_term", written.into_iter().max().unwrap());
+
+    head("reading", "read");
+    for (name, goal, pairs) in &cases {
+        let mut runs = [library_read, plain_read, plain_read_fx].map(reading);
+        time(name, *goal, pairs, runs.each_mut().map(|run| run as _));
+    }
+    head("writing", "written");
+    for (name, _, pairs) in &cases {
+        let mut runs = [library_write, plain_write, plain_write_fx].map(writing);
+        time(name, None, pairs, runs.each_mut().map(|run| run as _));
+    }
+}
