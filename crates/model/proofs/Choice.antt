@@ -8,6 +8,9 @@ use native.Mathlib.Nat.{not-suc-le-zero, le-of-suc-le-suc, eq-or-lt-of-le, eq-ze
 use Rattle.model.specs.Answers.{Outcome, result, refused}
 use Rattle.model.specs.Choice.{if_then_else_, refuseOn, firstFaulty, anyBelow}
 
+pub if-yes : {A : Type 0} (b : Bool) (x y : A) → b ≡ true → (if b then x else y) ≡ x
+if-yes b x y e = rw e
+
 pub if-no : {A : Type 0} (b : Bool) (x y : A) → b ≡ false → (if b then x else y) ≡ y
 if-no b x y e = rw e
 
@@ -15,6 +18,18 @@ if-no b x y e = rw e
 pub if-result : (b : Bool) (k p t : ℕ) (o : Outcome) → (if b then refused k p else o) ≡ result t → (b ≡ false) × (o ≡ result t)
 if-result true k p t o e = let z : _≡_ {A = ℕ} 0 1 = cc in absurd (omega arith)
 if-result false k p t o e = (refl, e)
+
+-- a result before a refusal: the test holds
+pub else-result : (b : Bool) (k p t : ℕ) (o : Outcome) → (if b then o else refused k p) ≡ result t → (b ≡ true) × (o ≡ result t)
+else-result true k p t o e = (refl, e)
+else-result false k p t o e = let z : _≡_ {A = ℕ} 0 1 = cc in absurd (omega arith)
+
+-- the same refusal: the same number and the same place
+pub refused-number : {a b c d : ℕ} → refused a b ≡ refused c d → a ≡ c
+refused-number e = cc
+
+pub refused-place : {a b c d : ℕ} → refused a b ≡ refused c d → b ≡ d
+refused-place e = cc
 
 -- no ground where there is a ground first: its test does not hold
 pub if-zero : (b : Bool) (k n : ℕ) → (if b then suc k else n) ≡ 0 → (b ≡ false) × (n ≡ 0)

@@ -15,7 +15,7 @@ use Rattle.model.specs.Choice.{if_then_else_, firstFaulty}
 use Rattle.model.specs.Tree.{Forest, Tree, empty, node, only, serialForest, serial, SymbolsInRange, WellFormed}
 use Rattle.model.specs.Entries.{openAfter, openAt, entryGround, endsTooSoon, formOr, treeOr, levelsOf, firstTree, treeFrom}
 use Rattle.model.specs.Place.{CanGoOn, StopsAt}
-use Rattle.model.proofs.Choice.{if-no, if-result, if-zero, or-false, or-none, not-both, no-fault, no-fault-back}
+use Rattle.model.proofs.Choice.{if-no, if-result, refused-number, refused-place, if-zero, or-false, or-none, not-both, no-fault, no-fault-back}
 use Rattle.model.proofs.Choice.{Decided, clear, faulty, decided}
 use Rattle.model.proofs.Rows.{sameList-refl}
 
@@ -326,15 +326,9 @@ pub form-place : (entries : List ℕ) (t p k : ℕ) → formOr entries (result t
 unfolding formOr
 form-place entries t p k e = go (decided (length entries) (entryGround entries) (shortOr entries (result t)))
   where
-    number : {a b c d : ℕ} → refused a b ≡ refused c d → a ≡ c
-    number e = cc
-
-    place : {a b c d : ℕ} → refused a b ≡ refused c d → b ≡ d
-    place e = cc
-
     ends : (b : Bool) → endsTooSoon entries ≡ b → ((i : ℕ) → i < length entries → entryGround entries i ≡ 0)
         → (if b then refused 13 (length entries) else result t) ≡ refused k p → (k ≡ 13) × StopsAt WellFormed entries p
-    ends true y h d = (sym (number d), rw (← place d) (stops-short entries h y))
+    ends true y h d = (sym (refused-number d), rw (← refused-place d) (stops-short entries h y))
     ends false y h d = let z : _≡_ {A = ℕ} 0 1 = cc in absurd (omega arith)
 
     go : Decided (length entries) (entryGround entries) (shortOr entries (result t))
@@ -343,7 +337,7 @@ form-place entries t p k e = go (decided (length entries) (entryGround entries) 
     go (clear h d) = ends (endsTooSoon entries) refl h (sym d ∙ e)
     go (faulty i l h g d) =
         let r = sym d ∙ e in
-        (sym (number r) ∙ ground-13 entries i g, rw (← place r) (stops-fault entries i l h g))
+        (sym (refused-number r) ∙ ground-13 entries i g, rw (← refused-place r) (stops-fault entries i l h g))
 
 -- ---- the tree of a list
 

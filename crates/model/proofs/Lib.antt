@@ -13,10 +13,15 @@ pub mod Passing
 pub mod Paper
 pub mod Serial
 pub mod States
+pub mod Values
+pub mod Pairing
+pub mod Stuck
 pub mod Entries
+pub mod Demand3
 pub mod Bytes
 pub mod Scan
 pub mod Names
 pub mod Listed
 pub mod Inverse
 pub mod TermExamples
+pub mod Starred

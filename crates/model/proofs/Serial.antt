@@ -21,14 +21,18 @@ serial-bar (node s k r) (node s′ k′ r′) x y p q e =
 pub serialForest-same : (f g : Forest) → SymbolsInRange f → SymbolsInRange g → serialForest f ≡ serialForest g → f ≡ g
 serialForest-same f g p q e = serial-bar f g [] [] p q (ap (λ (l : List ℕ). l ++ (0 ∷ [])) e) .0
 
--- trees
-pub serial-same : (t u : Tree) → SymbolsInRange (only t) → SymbolsInRange (only u) → serial t ≡ serial u → t ≡ u
-unfolding serial
-serial-same t u p q e = ap first (serialForest-same (only t) (only u) p q e)
+-- the same trees alone are the same
+pub only-same : {t u : Tree} → only t ≡ only u → t ≡ u
+only-same {t} {u} e = ap first e
   where
     first : Forest → Tree
     first empty = t
     first (node s k r) = record { symbol = s; children = k }
+
+-- trees
+pub serial-same : (t u : Tree) → SymbolsInRange (only t) → SymbolsInRange (only u) → serial t ≡ serial u → t ≡ u
+unfolding serial
+serial-same t u p q e = only-same (serialForest-same (only t) (only u) p q e)
 
 -- a list has at most one reading
 pub reading-same : {entries : List ℕ} (w w′ : WellFormed entries) → w .tree ≡ w′ .tree

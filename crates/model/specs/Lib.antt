@@ -14,3 +14,6 @@ pub mod Term
 pub mod TermOperations
 pub mod Place
 pub mod Inverse
+pub mod Number
+pub mod Write
+pub mod Demand3

@@ -1,0 +1,187 @@
+-- The pairing of trees and numbers (demand 3): for a table that passes its check, what numbering and writing answer.
+use Prim.Native.Nat.{ℕ, _≤_, _<_}
+use mathlib.Core.Path.{_≡_, refl, ap, sym, _∙_, subst}
+use mathlib.Core.List.{List, _++_, map}
+use mathlib.Core.Logic.{_↔_}
+use native.Mathlib.Omega.{arith}
+use lib.ListN.{length, getD, drop}
+use borrow.Author.Tests.{lt-ltb, le-ltb}
+use Rattle.model.specs.Answers.{Outcome, result, refused, lentAfter}
+use Rattle.model.specs.Table.{Table, tableOf}
+use Rattle.model.specs.Tree.{Forest, Tree, serial, SymbolsInRange, WellFormed}
+use Rattle.model.specs.Reach.{Reach, none, row, Accepted}
+use Rattle.model.specs.Count.{sum, Counts, count}
+use Rattle.model.specs.Value.{numberOf, treeOf}
+use Rattle.model.specs.Order.{Exactly}
+use Rattle.model.specs.Check.{checkOutcome, countLimit}
+use Rattle.model.specs.Entries.{treeFrom, noTree}
+use Rattle.model.specs.Number.{checkedThen, acceptedOr, numberOutcome}
+use Rattle.model.specs.Write.{entriesFor, writeOutcome, writeList}
+use Rattle.model.specs.Demand3.{AcceptsList, Refusing, Numbered, HasTree, Demand3}
+use Rattle.model.proofs.Good.{Good, Within}
+use Rattle.model.proofs.Checked.{NoGround, passes-just, checked-good, checked-within}
+use Rattle.model.proofs.Counting.{count-counts, total-is}
+use Rattle.model.proofs.Reaching.{row-symbol}
+use Rattle.model.proofs.Longest.{forest-most}
+use Rattle.model.proofs.Serial.{serial-same}
+use Rattle.model.proofs.Entries.{tree-of, tree-from, tree-serial, tree-or-taken, tree-or-back}
+use Rattle.model.proofs.Stuck.{accepted-taken, accepted-result, NotAccepted, stuck-place}
+use Rattle.model.proofs.Pairing.{exactly-map, number-below, number-same, tree-numbers, all-counted, before-counted}
+
+-- trees that reach states have symbols in range
+pub reach-symbols : {T : Table} {f : Forest} {qs : List ℕ} → Good T → Reach (T .rows) f qs → SymbolsInRange f
+unfolding SymbolsInRange
+reach-symbols g none = tt
+reach-symbols g (row i w ks ts) =
+    let p = rw (row-symbol w) at (g .symbols i (w .inside)) in
+    (p .0, p .1, reach-symbols g ks, reach-symbols g ts)
+
+-- an accepted tree of a table within the limits is well-formed
+pub accepted-well : {T : Table} {t : Tree} → Good T → Accepted T t → WellFormed (serial t)
+accepted-well {T} {t} g a = record { tree = t; symbols = reach-symbols g (a .reaches); written = refl }
+
+-- and has at most 4,096 entries
+pub accepted-short : {limit : ℕ} {T : Table} {t : Tree} → Good T → Within limit T → Accepted T t → length (serial t) ≤ 4096
+unfolding serial sum
+accepted-short {T} g w a = omega (arith, forest-most T g (a .reaches), w .small-trees (getD (T .accepting) (a .entry) 0) (g .listed (a .entry) (a .listed)))
+
+-- the same list is the same accepted tree
+pub accepted-same : {T : Table} {t u : Tree} → Good T → Accepted T t → Accepted T u → serial t ≡ serial u → t ≡ u
+accepted-same {T} {t} {u} g a b e = serial-same t u (reach-symbols g (a .reaches)) (reach-symbols g (b .reaches)) e
+
+-- what follows a check that passes
+pub checked-then : (o : Outcome) (n : ℕ) (f : ℕ → Outcome) → o ≡ result n → checkedThen o f ≡ f n
+checked-then o n f e = rw e
+
+-- the list is an accepted tree, and the number the tree's
+pub record Answered (T : Table) (entries : List ℕ) (m : ℕ) : Type 0 where
+  pub tree : Tree
+  pub written : serial tree ≡ entries
+  pub accepted : Accepted T tree
+  pub number : numberOf T (count T) tree ≡ m
+
+-- a table that passes
+module _ (states : ℕ) (rows accepting : List ℕ) (n : ℕ) (passes : checkOutcome states rows accepting ≡ result n) where
+  abbrev T : Table
+  T = tableOf states rows accepting
+
+  none-holds : NoGround countLimit states rows accepting
+  none-holds = passes-just states rows accepting n .0 passes .0
+
+  -- it is good, within the limits, and its total is the sum over the accepting list
+  pub passing-good : Good (tableOf states rows accepting)
+  passing-good = checked-good countLimit states rows accepting none-holds
+
+  pub passing-within : Within countLimit (tableOf states rows accepting)
+  passing-within = checked-within countLimit states rows accepting none-holds
+
+  pub passing-total : n ≡ sum (map (count (tableOf states rows accepting)) accepting)
+  passing-total = passes-just states rows accepting n .0 passes .1 ∙ total-is T
+
+  counts : Counts T (count T)
+  counts = count-counts T (passing-good .ordered)
+
+  -- an accepted tree's answer is its number
+  pub number-answer : (t : Tree) → Accepted (tableOf states rows accepting) t
+      → numberOutcome states rows accepting (serial t) ≡ result (numberOf (tableOf states rows accepting) (count (tableOf states rows accepting)) t)
+  unfolding numberOutcome
+  number-answer t a =
+      checked-then (checkOutcome states rows accepting) n _ passes
+      ∙ tree-or-taken (serial t) (accepted-well passing-good a) (accepted-short passing-good passing-within a) _
+      ∙ ap (λ (u : Tree). acceptedOr T u (result (numberOf T (count T) u))) (tree-of t (reach-symbols passing-good (a .reaches)))
+      ∙ accepted-taken T passing-good a _
+
+  -- only accepted trees have numbers
+  pub answer-number : (entries : List ℕ) (m : ℕ) → numberOutcome states rows accepting entries ≡ result m → Answered (tableOf states rows accepting) entries m
+  unfolding numberOutcome
+  answer-number entries m e =
+      let a = tree-or-back entries m _ (sym (checked-then (checkOutcome states rows accepting) n _ passes) ∙ e) in
+      let b = accepted-result T passing-good (treeFrom entries) _ m (a .2) in
+      record { tree = treeFrom entries; written = tree-serial entries (a .0); accepted = b .0; number = b .1 }
+
+  -- the tree of a number below the total, written into a list that is long enough
+  pub write-answer : (m room : ℕ) → m < n → length (entriesFor states rows accepting m) ≤ room
+      → writeOutcome states rows accepting m room ≡ result (length (entriesFor states rows accepting m))
+  unfolding writeOutcome
+  write-answer m room l h =
+      checked-then (checkOutcome states rows accepting) n _ passes ∙ rw (lt-ltb m n l, le-ltb room (length (entriesFor states rows accepting m)) h)
+
+  -- and the list then begins with the tree's entries
+  pub write-list : (m : ℕ) (tree : List ℕ) → m < n → length (entriesFor states rows accepting m) ≤ length tree
+      → writeList states rows accepting m tree ≡ entriesFor states rows accepting m ++ drop (length (entriesFor states rows accepting m)) tree
+  unfolding writeList
+  write-list m tree l h = ap (λ (o : Outcome). lentAfter o (entriesFor states rows accepting m) tree) (write-answer m (length tree) l h)
+
+  -- ---- the parts of demand 3
+
+  accepts-counted : Exactly (AcceptsList T) n
+  accepts-counted =
+      exactly-map serial noTree (Accepted T) (AcceptsList T) n
+      (λ t u a b e. accepted-same passing-good a b e)
+      (λ t a. record { tree = t; written = refl; accepted = a })
+      (λ entries a. (a .tree, a .accepted, a .written))
+      (subst (Exactly (Accepted T)) (sym passing-total) (all-counted T passing-good (count T) counts))
+
+  accepts-numbered : (entries : List ℕ) (a : AcceptsList T entries) → Numbered states rows accepting n entries (a .tree)
+  accepts-numbered entries a =
+      record {
+        number = numberOf T (count T) (a .tree);
+        answer = ap (numberOutcome states rows accepting) (sym (a .written)) ∙ number-answer (a .tree) (a .accepted);
+        small = omega (arith, passing-total, number-below T passing-good (count T) counts (a .accepted));
+        before = before-counted T passing-good (count T) counts (a .accepted);
+      }
+
+  numbers-differ : (x y : List ℕ) (m : ℕ) → numberOutcome states rows accepting x ≡ result m → numberOutcome states rows accepting y ≡ result m → x ≡ y
+  numbers-differ x y m e f =
+      let a = answer-number x m e in
+      let b = answer-number y m f in
+      sym (a .written) ∙ ap serial (number-same T passing-good (count T) counts (a .accepted) (b .accepted) (a .number ∙ sym (b .number))) ∙ b .written
+
+  number-has-tree : (m : ℕ) → m < n → HasTree states rows accepting m
+  unfolding entriesFor
+  number-has-tree m l =
+      let t = tree-numbers T passing-good (count T) counts m (omega (arith, passing-total)) in
+      record {
+        entries = serial (treeOf T (count T) m);
+        accepts = record { tree = treeOf T (count T) m; written = refl; accepted = t .accepted };
+        numbers = number-answer (treeOf T (count T) m) (t .accepted) ∙ ap result (t .number);
+        answer = λ tree h. write-answer m (length tree) l h;
+        list = λ tree h. write-list m tree l h;
+      }
+
+  -- refused exactly if not accepted, however long the list is
+  pub refused-exactly : (entries : List ℕ) → Refusing (numberOutcome states rows accepting entries) ↔ (AcceptsList (tableOf states rows accepting) entries → ⊥)
+  refused-exactly entries = (there, back (numberOutcome states rows accepting entries) refl)
+    where
+      there : Refusing (numberOutcome states rows accepting entries) → AcceptsList T entries → ⊥
+      there r a =
+          let e = r .is in
+          let f = accepts-numbered entries a .answer in
+          let z : _≡_ {A = ℕ} 0 1 = cc in
+          absurd (omega arith)
+
+      back : (o : Outcome) → numberOutcome states rows accepting entries ≡ o → (AcceptsList T entries → ⊥) → Refusing o
+      back (result m) e h = let a = answer-number entries m e in absurd (h (record { tree = a .tree; written = a .written; accepted = a .accepted }))
+      back (refused k p) e h = record { number = k; place = p; is = refl }
+
+  -- a well-formed list that is refused is 14, at the place that document 01 says
+  pub number-refused : (entries : List ℕ) (w : WellFormed entries) → length entries ≤ 4096 → (number place : ℕ)
+      → numberOutcome states rows accepting entries ≡ refused number place → (number ≡ 14) × NotAccepted (tableOf states rows accepting) (w .tree) place
+  unfolding numberOutcome
+  number-refused entries w l number place e =
+      stuck-place T passing-good (w .tree) (w .symbols) (numberOf T (count T) (w .tree)) number place
+      (sym (ap (λ (u : Tree). acceptedOr T u (result (numberOf T (count T) u))) (tree-from entries w))
+      ∙ sym (tree-or-taken entries w l _)
+      ∙ sym (checked-then (checkOutcome states rows accepting) n _ passes)
+      ∙ e)
+
+-- demand 3
+pub demand3 : (states : ℕ) (rows accepting : List ℕ) (n : ℕ) → checkOutcome states rows accepting ≡ result n → Demand3 states rows accepting n
+demand3 states rows accepting n passes =
+    record {
+      accepted = accepts-counted states rows accepting n passes;
+      numbered = accepts-numbered states rows accepting n passes;
+      different = numbers-differ states rows accepting n passes;
+      back = number-has-tree states rows accepting n passes;
+      refuses = λ entries w l. refused-exactly states rows accepting n passes entries;
+    }

@@ -1,0 +1,47 @@
+-- "Numbering a tree gives its number.": the check, 12 and 13, then 14. Assumes nothing: these are definitions.
+use Prim.Native.Nat.{ℕ, suc, _+_, _-_}
+use mathlib.Core.Bool.{Bool, not}
+use mathlib.Core.List.{List}
+use lib.ListN.{length}
+use lib.Dec.{ltb}
+use Rattle.model.specs.Answers.{Outcome, result, refused}
+use Rattle.model.specs.Choice.{if_then_else_}
+use Rattle.model.specs.Table.{Table, tableOf}
+use Rattle.model.specs.Tree.{Forest, Tree, empty, node, only, serialForest, serial}
+use Rattle.model.specs.Reach.{targetOf, rowOf, stateOf, entryOf}
+use Rattle.model.specs.Count.{count}
+use Rattle.model.specs.Value.{numberOf}
+use Rattle.model.specs.Check.{isState, checkOutcome}
+use Rattle.model.specs.Entries.{treeOr, treeFrom}
+
+-- "It first refuses as the check does.": the check's refusal, or what follows, with the total
+abbrev pub checkedThen : Outcome → (ℕ → Outcome) → Outcome
+checkedThen (result total) otherwise = otherwise total
+checkedThen (refused number place) otherwise = refused number place
+
+-- the tree with this symbol and these children reaches no state (the law `reaches-none`)
+unfoldable pub reachesNone : Table → (symbol : ℕ) (children : Forest) → Bool
+reachesNone T s children = not (isState (T .states) (targetOf T (rowOf T s children)))
+
+-- "Its place is the first bar that closes a subtree reaching no state": in trees whose first entry stands at the place. A node's bar comes
+-- after its children, and before the trees to its right
+unfoldable pub stuckOr : Table → Forest → (place : ℕ) → Outcome → Outcome
+stuckOr T empty place otherwise = otherwise
+stuckOr T (node s children right) place otherwise =
+    let bar = suc place + length (serialForest children) in
+    stuckOr T children (suc place)
+    (if reachesNone T s children then refused 14 bar else
+    stuckOr T right (suc bar) otherwise)
+
+-- "A tree that the table does not accept is 14."; "if the whole tree reaches a state that is not listed, it is the last bar"
+unfoldable pub acceptedOr : Table → Tree → Outcome → Outcome
+acceptedOr T t otherwise =
+    stuckOr T (only t) 0
+    (if ltb (entryOf (T .accepting) (stateOf T t)) (length (T .accepting)) then otherwise else refused 14 (length (serial t) - 1))
+
+-- what numbering a tree answers, for any count of states and any three lists
+unfoldable pub numberOutcome : (states : ℕ) (rows accepting tree : List ℕ) → Outcome
+numberOutcome states rows accepting tree =
+    let T = tableOf states rows accepting in
+    let t = treeFrom tree in
+    checkedThen (checkOutcome states rows accepting) (λ total. treeOr tree (acceptedOr T t (result (numberOf T (count T) t))))
