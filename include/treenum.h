@@ -48,6 +48,29 @@ extern "C" {
 uint32_t treenum_check(uint64_t states, const uint16_t *rows, size_t rows_len, const uint16_t *accepting,
                        size_t accepting_len, uint64_t *value);
 
+/* Numbers a tree. The result is its number: how many of the trees that the table accepts come before it. The refusals,
+ * in the order in which they are looked for:
+ *
+ *    1 to 11  as the check
+ *   12  the tree has more than 4,096 entries
+ *   13  the list is no tree; the place is the first entry that is above 255, is a 0 with no node open, or follows the
+ *       root's 0, or the list's length if it ends too soon
+ *   14  the table does not accept the tree; the place is the first 0 that closes a subtree reaching no state, or the
+ *       last 0 if the whole tree reaches a state that is not on the accepting list
+ */
+uint32_t treenum_number(uint64_t states, const uint16_t *rows, size_t rows_len, const uint16_t *accepting,
+                        size_t accepting_len, const uint16_t *tree, size_t tree_len, uint64_t *value);
+
+/* Writes the tree of a number into a tree list. The result is the count of entries, which are written at the front of
+ * the list; the later ones stay. The refusals, in the order in which they are looked for:
+ *
+ *    1 to 11  as the check
+ *   15  the number is not below the total
+ *   16  the tree list is short; the place is the count of entries needed
+ */
+uint32_t treenum_write(uint64_t states, const uint16_t *rows, size_t rows_len, const uint16_t *accepting,
+                       size_t accepting_len, uint64_t number, uint16_t *tree, size_t tree_len, uint64_t *value);
+
 /* Reads a term into a tree list. The result is the count of entries, which are written at the front of the list; the
  * later ones stay. The refusals, in the order in which they are looked for:
  *
@@ -67,9 +90,7 @@ uint32_t treenum_read_term(const uint8_t *names, size_t names_len, const uint8_t
  * list; the later ones stay. The refusals, in the order in which they are looked for:
  *
  *   17  as above
- *   12  the tree has more than 4,096 entries
- *   13  the list is no tree; the place is the first entry that is above 255, is a 0 with no node open, or follows the
- *       root's 0, or the list's length if it ends too soon
+ *   12, 13  as numbering a tree
  *   23  a symbol is above the count of names; the place is the first such entry
  *   24  the text list is short; the place is the count of bytes needed
  */

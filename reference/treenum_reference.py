@@ -1,10 +1,16 @@
-"""Checking a table, reading a term and writing a term, written a second time from document 01, in plain Python.
+"""The five operations and the program treenum, written a second time from document 01, in plain Python.
 
 check(states, rows, accepting) answers ('total', N) or ('refused', number, place). Numbers have no upper
 bound here.
 
-read_term(names, text, lent) and write_term(names, tree, lent) answer a pair: ('result', N) or ('refused',
-number, place), and what the lent list then holds. Names and texts are bytes, trees are lists of numbers.
+number(states, rows, accepting, tree) answers ('result', N) or ('refused', number, place). A tree is a list
+of numbers.
+
+write(states, rows, accepting, number, lent), read_term(names, text, lent) and write_term(names, tree, lent)
+answer a pair: ('result', N) or ('refused', number, place), and what the lent list then holds. Names and
+texts are bytes.
+
+treenum_lines(bytes) gives what the program treenum prints for these bytes.
 
 Quotations are document 01's sentences.
 
@@ -12,6 +18,7 @@ Run with --self-test: compares with document 01's own numbers, and with trees, t
 one by one.
 """
 
+import functools
 import itertools
 import math
 import random
@@ -118,11 +125,20 @@ class Counts:
 
     def __init__(self, table):
         self.table = table
+        self.state_rows = {}
         self.state_counts = {}
         self.longest_trees = {}
+        self.earlier_counts = {}
+        self.alike = {(row.symbol, row.arguments): row for row in table}
 
     def rows_of(self, state):
-        return [row for row in self.table if row.target == state]
+        if state not in self.state_rows:
+            self.state_rows[state] = [row for row in self.table if row.target == state]
+        return self.state_rows[state]
+
+    def row_with(self, symbol, arguments):
+        """The row with this symbol and these arguments, None if there is none. There are no two."""
+        return self.alike.get((symbol, tuple(arguments)))
 
     def of_row(self, row):
         """'A row without arguments counts 1; any other row counts the product of its arguments' counts.'"""
@@ -154,6 +170,146 @@ class Counts:
                 default=None)
         return self.longest_trees[state]
 
+    def earlier(self, row):
+        """'the counts of all earlier rows with the same target'"""
+        if row not in self.earlier_counts:
+            same = self.rows_of(row.target)
+            self.earlier_counts[row] = sum(self.of_row(other) for other in same[:same.index(row)])
+        return self.earlier_counts[row]
+
+    def value(self, row, values):
+        """The value of a tree with this row, from those of its children.
+
+        'start at 0; for each child from the first, multiply by the count of the child's state and add the child's
+        value; then add the counts of all earlier rows with the same target'
+        """
+        value = 0
+        for argument, child in zip(row.arguments, values):
+            value = value * self.of_state(argument) + child
+        return value + self.earlier(row)
+
+    def tree_of(self, accepting, number):
+        """'Back again: find the accepting state, then the row, by the sums.'"""
+        return self.tree_in(*by_the_sums(accepting, self.of_state, number))
+
+    def tree_in(self, state, value):
+        """'With h the rest and w the row's count, for each child divide w by the child's count; the child's value is
+        h divided by w, rounded down, and h becomes the remainder.'
+        """
+        row, h = by_the_sums(self.rows_of(state), self.of_row, value)
+        w = self.of_row(row)
+        children = []
+        for argument in row.arguments:
+            w //= self.of_state(argument)
+            children.append(self.tree_in(argument, h // w))
+            h %= w
+        return row.symbol, tuple(children)
+
+
+def by_the_sums(items, count, rest):
+    """The item in whose count the rest falls when those before it are taken off, and what is left."""
+    for item in items:
+        if rest < count(item):
+            return item, rest
+        rest -= count(item)
+
+
+def whole_rows(rows):
+    """The rows of a list that is without fault."""
+    table, at = [], 0
+    while at < len(rows):
+        table.append(row_at(rows, at))
+        at += 3 + rows[at + 2]
+    return table
+
+
+# Trees as lists, numbering a tree, writing the tree of a number. A tree that is no list is a pair of its symbol and
+# the tuple of its children.
+
+def list_of(tree):
+    """'the symbol of a node, its children one after another, then the bar, which is entry 0'"""
+    symbol, children = tree
+    return [symbol, *itertools.chain.from_iterable(map(list_of, children)), 0]
+
+
+def tree_fault(tree):
+    """The place of 13, None for a well-formed tree.
+
+    'each entry read opens a node, closes one, or is refused: the place is the first entry that is above 255, is a
+    bar with no node open, or follows the root's bar; for a list that ends too soon (an empty one too) the place
+    is its length.'
+    """
+    opened = 0
+    for place, entry in enumerate(tree):
+        follows = place > 0 and opened == 0
+        if entry > 255 or (entry == 0 and opened == 0) or follows:
+            return place
+        opened += -1 if entry == 0 else 1
+    return len(tree) if opened > 0 or len(tree) == 0 else None
+
+
+@functools.lru_cache(maxsize=8)
+def checked(states, rows, accepting):
+    """The check's answer, and the counts of a table that passes. The tables asked for last are kept."""
+    answer = check(states, rows, accepting)
+    return answer, None if answer[0] == 'refused' else Counts(whole_rows(rows))
+
+
+def number(states, rows, accepting, tree):
+    """'Numbering a tree gives its number.'"""
+    # 'It first refuses as the check does.'
+    answer, counts = checked(states, tuple(rows), tuple(accepting))
+    if answer[0] == 'refused':
+        return answer
+
+    # 'More than 4,096 entries is 12.' Then 13.
+    if len(tree) > 4096:
+        return refused(12)
+    fault = tree_fault(tree)
+    if fault is not None:
+        return refused(13, fault)
+
+    # 'A tree that the table does not accept is 14. Its place is the first bar that closes a subtree reaching no
+    # state;'
+    opened = [(None, [])]   # the symbols of the open nodes, with the states and values of their children so far
+    for place, entry in enumerate(tree):
+        if entry != 0:
+            opened.append((entry, []))
+        else:
+            symbol, children = opened.pop()
+            row = counts.row_with(symbol, [state for state, _ in children])
+            if row is None:
+                return refused(14, place)
+            opened[-1][1].append((row.target, counts.value(row, [value for _, value in children])))
+
+    # 'if the whole tree reaches a state that is not listed, it is the last bar.'
+    state, value = opened[0][1][0]
+    if state not in accepting:
+        return refused(14, len(tree) - 1)
+
+    # 'Its number is that value plus the counts of the accepting states listed earlier'
+    return ('result', value + counts.total(accepting[:accepting.index(state)]))
+
+
+def write(states, rows, accepting, number, lent):
+    """'Writing a tree gives the count of entries written at the front; later entries stay.'"""
+    # 'A refusal writes to no lent list.'
+    same = list(lent)
+
+    # 'It first refuses as the check does.'
+    answer, counts = checked(states, tuple(rows), tuple(accepting))
+    if answer[0] == 'refused':
+        return answer, same
+
+    # 'A number not below the total is 15.'
+    if number >= answer[1]:
+        return refused(15), same
+
+    # 'A lent list shorter than the tree is 16, the place being the entries needed.'
+    tree = list_of(counts.tree_of(accepting, number))
+    if len(lent) < len(tree):
+        return refused(16, len(tree)), same
+    return ('result', len(tree)), tree + same[len(tree):]
 
 # Names lists
 
@@ -292,22 +448,6 @@ def read_term(names, text, lent):
     return ('result', len(tree)), tree + same[len(tree):]
 
 
-def tree_fault(tree):
-    """The place of 13, None for a well-formed tree.
-
-    'each entry read opens a node, closes one, or is refused: the place is the first entry that is above 255, is a
-    bar with no node open, or follows the root's bar; for a list that ends too soon (an empty one too) the place
-    is its length.'
-    """
-    opened = 0
-    for place, entry in enumerate(tree):
-        follows = place > 0 and opened == 0
-        if entry > 255 or (entry == 0 and opened == 0) or follows:
-            return place
-        opened += -1 if entry == 0 else 1
-    return len(tree) if opened > 0 or len(tree) == 0 else None
-
-
 def text_of(tree, names):
     """The term of a well-formed tree.
 
@@ -351,7 +491,51 @@ def write_term(names, tree, lent):
     return ('result', len(text)), text + same[len(text):]
 
 
-# The self test. A tree is a pair of its symbol and the tuple of its children.
+# The program treenum
+
+# 'Symbol 1 is `a`, symbol 2 is `b`; there are five states.' 'The accepting list is 2, 4.'
+PAPER_NAMES = b'a\nb\n'
+PAPER_ROWS = [1, 0, 0, 2, 1, 0, 1, 2, 2, 0, 0, 2, 2, 2, 0, 1, 1, 3, 2, 1, 0, 1, 3, 2, 1, 1, 2, 3, 2, 1, 1,
+              1, 4, 2, 2, 2, 2, 4, 3, 2, 3, 1]
+PAPER = (5, PAPER_ROWS, [2, 4])
+
+
+def treenum_lines(text):
+    """'`treenum` reads lines from standard input and prints one line for each'"""
+    # 'A last line without byte 10 counts if it is not empty.'
+    return b''.join(treenum_line(line.removesuffix(b'\n')) + b'\n' for line in lines_of(text))
+
+
+def treenum_line(line):
+    """'A refusal prints as `refused`, its number and its place.'"""
+    outcome, answer = treenum_answer(line)
+    return answer if outcome[0] == 'result' else b'refused %d %d' % outcome[1:]
+
+
+def treenum_answer(line):
+    # 'A line of one or more decimal digits and no other byte is a number of any length, leading zeros allowed,
+    # answered by its term, or 15 from 12 up.'
+    if re.fullmatch(b'[' + DIGITS + b']+', line):
+        digits = line.lstrip(b'0')
+        if len(digits) > 2:
+            return refused(15), None
+        outcome, tree = write(*PAPER, int(digits or b'0'), [0] * 4096)
+        if outcome[0] == 'refused':
+            return outcome, None
+        outcome, text = write_term(PAPER_NAMES, tree[:outcome[1]], bytes(4096))
+        return outcome, text[:outcome[1]]
+
+    # 'Any other line is a term, answered by its number; an empty line is 19 at 0, and a term line above 4,096 bytes
+    # is 18 at 0.'
+    if len(line) > 4096:
+        return refused(18), None
+    outcome, tree = read_term(PAPER_NAMES, line, [0] * 4096)
+    if outcome[0] == 'result':
+        outcome = number(*PAPER, tree[:outcome[1]])
+    return outcome, b'%d' % outcome[1]
+
+
+# The self test
 
 def entries(tree):
     """'the symbol of a node, its children one after another, then the bar'"""
@@ -394,14 +578,6 @@ def trees_of_rows(table, state):
             for children in itertools.product(*(trees_of_rows(table, argument) for argument in row.arguments))]
 
 
-def whole_rows(rows):
-    table, at = [], 0
-    while at < len(rows):
-        table.append(row_at(rows, at))
-        at += 3 + rows[at + 2]
-    return table
-
-
 def agrees(states, rows, accepting):
     """Whether the counts, longest trees and total of a sound table are those of its trees, listed one by one."""
     table = whole_rows(rows)
@@ -429,6 +605,114 @@ def agrees(states, rows, accepting):
                 accepted += 1
     return (found == [counts.of_state(state) for state in range(states)]
             and check(states, rows, accepting) == ('total', accepted))
+
+
+# The order, by the definitions alone
+
+def known_trees(table):
+    """Every tree that reaches a state, with the number of its row: rows are applied to the trees found so far, until
+    no other is found.
+
+    'its row is the one with its symbol and its children's states, in order'
+    """
+    known = {}
+    while True:
+        before = len(known)
+        for i, row in enumerate(table):
+            of_arguments = [[tree for tree, j in known.items() if table[j].target == argument] for argument in row.arguments]
+            for children in itertools.product(*of_arguments):
+                known[row.symbol, children] = i
+        if len(known) == before:
+            return known
+
+
+def row_before(known, one, other):
+    """'if its row stands earlier; with the same row, by the first child in which they differ, compared by row and
+    child again'
+    """
+    if known[one] != known[other]:
+        return known[one] < known[other]
+    for child, other_child in zip(one[1], other[1]):
+        if child != other_child:
+            return row_before(known, child, other_child)
+    return False
+
+
+def trees_in_order(table, accepting):
+    """The accepted trees.
+
+    'one accepted tree comes before another if its accepting state is listed earlier; with the same state,' by row and
+    child. 'A tree's accepting state is the one it reaches'
+    """
+    known = known_trees(table)
+
+    def entry_of(tree):
+        return accepting.index(table[known[tree]].target)
+
+    def comes_before(one, other):
+        if entry_of(one) != entry_of(other):
+            return entry_of(one) < entry_of(other)
+        return row_before(known, one, other)
+
+    trees = [tree for tree, i in known.items() if table[i].target in accepting]
+    trees.sort(key=functools.cmp_to_key(lambda one, other: comes_before(other, one) - comes_before(one, other)))
+    # 'How many accepted trees come before a tree is counted over those trees by this order'
+    if len(trees) <= 60:
+        for place, tree in enumerate(trees):
+            assert sum(comes_before(other, tree) for other in trees) == place
+    return trees
+
+
+def stuck_place(table, tree, place=0):
+    """'the first bar that closes a subtree reaching no state', for a tree whose list begins at this place; None if
+    there is none
+    """
+    place += 1
+    for child in tree[1]:
+        found = stuck_place(table, child, place)
+        if found is not None:
+            return found
+        place += entries(child)
+    return None if reached(table, tree) else place
+
+
+def refused_place(table, accepting, tree):
+    """The place of 14, None for an accepted tree."""
+    place = stuck_place(table, tree)
+    if place is not None:
+        return place
+    # 'if the whole tree reaches a state that is not listed, it is the last bar'
+    return None if any(state in accepting for state in reached(table, tree)) else entries(tree) - 1
+
+
+def misnumbered(states, rows, accepting, nodes):
+    """What is wrong with the numbers of a sound table: of its trees, and of all trees of at most so many nodes."""
+    table = whole_rows(rows)
+    trees = trees_in_order(table, accepting)
+    wrong = []
+    if check(states, rows, accepting) != ('total', len(trees)):
+        wrong.append('total')
+    for place, tree in enumerate(trees):
+        list_ = list_of(tree)
+        if number(states, rows, accepting, list_) != ('result', place):
+            wrong.append(list_)
+        if write(states, rows, accepting, place, [300] * (len(list_) + 2)) != (('result', len(list_)), list_ + [300, 300]):
+            wrong.append(place)
+        if write(states, rows, accepting, place, [300] * (len(list_) - 1)) != (refused(16, len(list_)), [300] * (len(list_) - 1)):
+            wrong.append(place)
+    for more in range(2):
+        if write(states, rows, accepting, len(trees) + more, [300] * 9) != (refused(15), [300] * 9):
+            wrong.append(len(trees) + more)
+    symbols = sorted({row.symbol for row in table} | {3})
+    accepted = set(trees)
+    known = {}
+    for tree in itertools.chain.from_iterable(all_trees(symbols, n, known) for n in range(1, nodes + 1)):
+        place = refused_place(table, accepting, tree)
+        if (place is None) != (tree in accepted):
+            wrong.append(tree)
+        if place is not None and number(states, rows, accepting, list_of(tree)) != refused(14, place):
+            wrong.append(list_of(tree))
+    return wrong
 
 
 def small_table(draw):
@@ -502,12 +786,6 @@ def all_lists(items, most):
 def term_of(node):
     """The text of a node, by itself."""
     return node.name + (b'(' + b','.join(map(term_of, node.children)) + b')' if node.children else b'')
-
-
-def list_of(tree):
-    """The list of a tree that is a pair: 'the symbol of a node, its children one after another, then the bar'"""
-    symbol, children = tree
-    return [symbol, *itertools.chain.from_iterable(map(list_of, children)), 0]
 
 
 def term_tests(expect):
@@ -590,6 +868,44 @@ def term_tests(expect):
     expect('trees there and back', wrong, [])
 
 
+def tree_tests(expect):
+    # 'Starred facts'
+    expect('trees of the paper, in order', [text_of(list_of(tree), [b'a', b'b']) for tree in trees_in_order(whole_rows(PAPER_ROWS), [2, 4])],
+           [b'a(a,a)', b'b(a,b)', b'a(a(a,a),a(a,a))', b'a(a(a,a),b(a,b))', b'a(b(a,b),a(a,a))', b'a(b(a,b),b(a,b))',
+            b'b(a(a,a),a(b,a),b)', b'b(a(a,a),a(b,b),b)', b'b(a(a,a),b(b,b),b)', b'b(b(a,b),a(b,a),b)', b'b(b(a,b),a(b,b),b)',
+            b'b(b(a,b),b(b,b),b)'])
+    expect('numbers of the paper', misnumbered(*PAPER, 5), [])
+    expect('number 12', write(*PAPER, 12, [9]), (refused(15), [9]))
+    expect('1 0', number(*PAPER, [1, 0]), refused(14, 1))
+    expect('2 1 0 1 0 0', number(*PAPER, [2, 1, 0, 1, 0, 0]), refused(14, 5))
+
+    # Small tables against their trees, listed and put in order.
+    draw = random.Random(2)
+    small = 0
+    while small < 100:
+        states, rows, accepting = small_table(draw)
+        if Counts(whole_rows(rows)).total(accepting) in range(1, 150):
+            expect(f'numbers of {states} {rows} {accepting}', misnumbered(states, rows, accepting, 4), [])
+            small += 1
+
+
+def line_tests(expect):
+    # the example of document 01
+    expect('treenum', treenum_lines(b'a(a,a)\nb(b(a,b),a(b,b),b)\na\nb(a,a)\n10\n12\na(\nc\n'),
+           b'0\n10\nrefused 14 1\nrefused 14 5\nb(b(a,b),a(b,b),b)\nrefused 15 0\nrefused 19 2\nrefused 20 0\n')
+    # lines and their ends
+    for text, printed in ((b'', b''), (b'\n', b'refused 19 0\n'), (b'\n\n', b'refused 19 0\n' * 2), (b'a(a,a)', b'0\n'),
+                          (b'a(a,a)\n0', b'0\na(a,a)\n'), (b'0\n\n', b'a(a,a)\nrefused 19 0\n'), (b'\na(a,a)', b'refused 19 0\n0\n'),
+                          (b'0\r\n', b'refused 19 0\n'), (b'a(a,a)\r\n', b'refused 19 6\n'), (b'\0', b'refused 19 0\n'),
+                          (b'0\x0b', b'refused 19 0\n'), (b'00000', b'a(a,a)\n'), (b'0' * 9999 + b'11', b'b(b(a,b),b(b,b),b)\n'),
+                          (b'1' * 200000, b'refused 15 0\n'), (b'-1', b'refused 19 0\n'), (b'1 ', b'refused 19 0\n'),
+                          (b'a(' + b'a,' * 2046 + b'a)', b'refused 14 4095\n'), (b'(' * 4096, b'refused 19 0\n'), (b'(' * 4097, b'refused 18 0\n')):
+        expect(f'treenum on {text[:40]}', treenum_lines(text), printed)
+    for k in range(12):
+        term = treenum_lines(b'%d\n' % k)
+        expect(f'treenum on {k}, there and back', treenum_lines(term), b'%d\n' % k)
+
+
 def self_test():
     tried = failed = 0
 
@@ -601,12 +917,10 @@ def self_test():
             print(f'{what}: {found}, expected {expected}')
 
     # 'The paper's own table'
-    paper = [1, 0, 0, 2, 1, 0, 1, 2, 2, 0, 0, 2, 2, 2, 0, 1, 1, 3, 2, 1, 0, 1, 3, 2, 1, 1, 2, 3, 2, 1, 1,
-             1, 4, 2, 2, 2, 2, 4, 3, 2, 3, 1]
-    counts = Counts(whole_rows(paper))
+    counts = Counts(whole_rows(PAPER_ROWS))
     expect('states of the paper', [counts.of_state(state) for state in range(5)], [1, 1, 2, 3, 10])
-    expect('the paper', check(5, paper, [2, 4]), ('total', 12))
-    expect('trees of the paper', agrees(5, paper, [2, 4]), True)
+    expect('the paper', check(*PAPER), ('total', 12))
+    expect('trees of the paper', agrees(*PAPER), True)
 
     # 'No states, rows or accepting entries: total 0.'
     expect('nothing', check(0, [], []), ('total', 0))
@@ -645,7 +959,9 @@ def self_test():
             expect(f'trees of {states} {rows} {accepting}', agrees(states, rows, accepting), True)
             small += 1
 
+    tree_tests(expect)
     term_tests(expect)
+    line_tests(expect)
 
     print(f'reference: {tried} self tests, {failed} failed')
     return failed == 0

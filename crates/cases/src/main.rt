@@ -3,20 +3,22 @@
 // A line is decimal numbers with one blank between two. The first is the operation:
 //
 //     1 states k e1 .. ek m a1 .. am               check the table of these row entries and accepting entries
+//     2 states k e1 .. ek m a1 .. am l t1 .. tl    number the tree t in the table
+//     3 states k e1 .. ek m a1 .. am n l x1 .. xl  write the tree of the number n in the table into the lent list x
 //     4 k n1 .. nk m t1 .. tm l x1 .. xl           read the term t over the names n into the lent list x
 //     5 k n1 .. nk m t1 .. tm l x1 .. xl           write the tree t over the names n into the lent list x
 //
-// From the third number on, `99999 c k v1 .. vk` is short for c numbers: v1 to vk in turn, over and over.
+// From the third number on, `99999 c k v1 .. vk` is short for c numbers: v1 to vk in turn, over and over. So the
+// number 99999 itself is `99999 1 1 99999`.
 //
 // A check is answered by `total N`, the others by `result N`; a refusal is `refused`, its number and its place.
-// After an answer to 4 or 5 comes what the lent list then holds: `;` and its entries, or, if there are
+// After an answer to 3, 4 or 5 comes what the lent list then holds: `;` and its entries, or, if there are
 // more than 64, `;`, their count, `entries` and their digest. Any other line prints `bad line`, and so does one
 // with a number that does not fit (names and texts: 8 bits; rows, accepting entries and trees: 16; all
 // others: 64), a list of more than 66,000 or more than 80,000 numbers.
 use libc::STDIN_FILENO;
 use libc::STDOUT_FILENO;
 use model::Answer;
-use model::Refusal;
 ghost use mathlib.Core.Path.{_≡_};
 ghost use lib.ListN.{length};
 ghost use Rattle.cases.specs.Decimal.{grown};
@@ -62,18 +64,10 @@ enum Fed {
     Whole(Line),
 }
 
-fn empty_line() -> Line {
+// A line of no bytes, or one that is spoilt.
+fn blank(good: bool) -> Line {
     Line {
-        good: true,
-        filled: 0,
-        begun: false,
-        value: 0,
-    }
-}
-
-fn spoilt() -> Line {
-    Line {
-        good: false,
+        good: good,
         filled: 0,
         begun: false,
         value: 0,
@@ -84,7 +78,7 @@ impl Line {
     // A digit more.
     fn with_digit(self, digit: u64) -> Line {
         match grow(self.value, digit) {
-            Grown::TooLarge => spoilt(),
+            Grown::TooLarge => blank(false),
             Grown::Fits(v) => Line {
                 good: self.good,
                 filled: self.filled,
@@ -97,14 +91,14 @@ impl Line {
     // The number that is being read ends here.
     fn closed(self, numbers: &mut [u64; ROOM]) -> Line {
         if !self.good {
-            return spoilt();
+            return blank(false);
         }
         if !self.begun {
-            return spoilt();
+            return blank(false);
         }
         let filled = self.filled;
         if filled >= ROOM {
-            return spoilt();
+            return blank(false);
         }
         numbers[filled] = self.value;
         Line {
@@ -127,29 +121,13 @@ impl Line {
             return Fed::More(self);
         }
         if b < b'0' {
-            return Fed::More(spoilt());
+            return Fed::More(blank(false));
         }
         if b > b'9' {
-            return Fed::More(spoilt());
+            return Fed::More(blank(false));
         }
         Fed::More(self.with_digit((b - b'0') as u64))
     }
-}
-
-fn bad_line() {
-    io::write_all(STDOUT_FILENO, b"bad line\n");
-}
-
-fn end_line() {
-    io::write_all(STDOUT_FILENO, b"\n");
-}
-
-fn refused(r: Refusal) {
-    let kind = r.kind;
-    io::write_all(STDOUT_FILENO, b"refused ");
-    io::print_decimal(STDOUT_FILENO, model::kind_number(kind) as u64);
-    io::write_all(STDOUT_FILENO, b" ");
-    io::print_decimal(STDOUT_FILENO, r.place);
 }
 
 // An answer, its result under a word.
@@ -160,7 +138,11 @@ fn say(word: &[u8], answer: Answer) {
             io::print_decimal(STDOUT_FILENO, n);
         }
         Answer::Refused(r) => {
-            refused(r);
+            let kind = r.kind;
+            io::write_all(STDOUT_FILENO, b"refused ");
+            io::print_decimal(STDOUT_FILENO, model::kind_number(kind) as u64);
+            io::write_all(STDOUT_FILENO, b" ");
+            io::print_decimal(STDOUT_FILENO, r.place);
         }
     }
 }
@@ -218,7 +200,7 @@ fn say_list(list: &[u16; LIST], n: usize) {
     let all = &list[..];
     io::write_all(STDOUT_FILENO, b";");
     print_list(&all[0..n]);
-    end_line();
+    io::write_all(STDOUT_FILENO, b"\n");
 }
 
 // The numbers as 16-bit entries at the front of the list. False where one does not fit.
@@ -274,192 +256,229 @@ fn widen(bytes: &[u8; LIST], list: &mut [u16; LIST]) {
     }
 }
 
-fn answer_check(states: u64, rows: &[u64], accepting: &[u64]) {
-    let k = rows.len();
-    let m = accepting.len();
-    if k > LIST {
-        bad_line();
-        return;
-    }
-    if m > LIST {
-        bad_line();
-        return;
-    }
-    let mut r = [0u16; LIST];
-    if !entries_of(rows, &mut r) {
-        bad_line();
-        return;
-    }
-    let mut a = [0u16; LIST];
-    if !entries_of(accepting, &mut a) {
-        bad_line();
-        return;
-    }
-    say(b"total ", table::check(states, &r[0..k], &a[0..m]));
-    end_line();
-}
-
-fn answer_read(names: &[u64], text: &[u64], lent: &[u64]) {
-    let k = names.len();
-    let m = text.len();
-    let l = lent.len();
-    if k > LIST {
-        bad_line();
-        return;
-    }
-    if m > LIST {
-        bad_line();
-        return;
-    }
-    if l > LIST {
-        bad_line();
-        return;
-    }
-    let mut n = [0u8; LIST];
-    if !bytes_of(names, &mut n) {
-        bad_line();
-        return;
-    }
-    let mut t = [0u8; LIST];
-    if !bytes_of(text, &mut t) {
-        bad_line();
-        return;
-    }
-    let mut x = [0u16; LIST];
-    if !entries_of(lent, &mut x) {
-        bad_line();
-        return;
-    }
-    say(
-        b"result ",
-        term::read_term(&n[0..k], &t[0..m], &mut x[0..l]),
-    );
-    say_list(&x, l);
-}
-
-fn answer_write(names: &[u64], tree: &[u64], lent: &[u64]) {
-    let k = names.len();
-    let m = tree.len();
-    let l = lent.len();
-    if k > LIST {
-        bad_line();
-        return;
-    }
-    if m > LIST {
-        bad_line();
-        return;
-    }
-    if l > LIST {
-        bad_line();
-        return;
-    }
-    let mut n = [0u8; LIST];
-    if !bytes_of(names, &mut n) {
-        bad_line();
-        return;
-    }
-    let mut t = [0u16; LIST];
-    if !entries_of(tree, &mut t) {
-        bad_line();
-        return;
-    }
-    let mut x = [0u8; LIST];
-    if !bytes_of(lent, &mut x) {
-        bad_line();
-        return;
-    }
-    say(
-        b"result ",
-        term::write_term(&n[0..k], &t[0..m], &mut x[0..l]),
-    );
-    let mut shown = [0u16; LIST];
-    widen(&x, &mut shown);
-    say_list(&shown, l);
-}
-
-fn answer_term(operation: u64, names: &[u64], term: &[u64], lent: &[u64]) {
-    if operation == 4 {
-        answer_read(names, term, lent);
-        return;
-    }
-    if operation == 5 {
-        answer_write(names, term, lent);
-        return;
-    }
-    bad_line();
-}
-
 fn size(x: u64) -> usize
     ensures { λ r. ⌜ r ≡ x ⌝ }
 {
     x as usize
 }
 
-// The numbers `k e1 .. ek m a1 .. am` of a check.
-fn take_check(states: u64, numbers: &[u64]) {
+// The functions from here to `answer_case` give false where the numbers are no case, and then print nothing.
+
+// The numbers `l t1 .. tl` after a table.
+fn answer_number(states: u64, rows: &[u16], accepting: &[u16], numbers: &[u64]) -> bool {
+    let n = numbers.len();
+    if n < 1 {
+        return false;
+    }
+    let l = n - 1;
+    if size(numbers[0]) != l {
+        return false;
+    }
+    if l > LIST {
+        return false;
+    }
+    let mut t = [0u16; LIST];
+    if !entries_of(&numbers[1..], &mut t) {
+        return false;
+    }
+    say(b"result ", rank::number(states, rows, accepting, &t[0..l]));
+    io::write_all(STDOUT_FILENO, b"\n");
+    true
+}
+
+// The numbers `n l x1 .. xl` after a table.
+fn answer_tree(states: u64, rows: &[u16], accepting: &[u16], numbers: &[u64]) -> bool {
     let n = numbers.len();
     if n < 2 {
-        bad_line();
-        return;
+        return false;
+    }
+    let l = n - 2;
+    if size(numbers[1]) != l {
+        return false;
+    }
+    if l > LIST {
+        return false;
+    }
+    let mut x = [0u16; LIST];
+    if !entries_of(&numbers[2..], &mut x) {
+        return false;
+    }
+    say(
+        b"result ",
+        unrank::write(states, rows, accepting, numbers[0], &mut x[0..l]),
+    );
+    say_list(&x, l);
+    true
+}
+
+// A table and the numbers after it.
+fn with_table(
+    operation: u64,
+    states: u64,
+    rows: &[u16],
+    accepting: &[u16],
+    numbers: &[u64],
+) -> bool {
+    if operation == 2 {
+        return answer_number(states, rows, accepting, numbers);
+    }
+    if operation == 3 {
+        return answer_tree(states, rows, accepting, numbers);
+    }
+    if operation != 1 {
+        return false;
+    }
+    if numbers.len() != 0 {
+        return false;
+    }
+    say(b"total ", table::check(states, rows, accepting));
+    io::write_all(STDOUT_FILENO, b"\n");
+    true
+}
+
+// The numbers `m a1 .. am` of an accepting list, and those after them.
+fn take_accepting(operation: u64, states: u64, rows: &[u16], numbers: &[u64]) -> bool {
+    let n = numbers.len();
+    if n < 1 {
+        return false;
+    }
+    let m = size(numbers[0]);
+    if m > n - 1 {
+        return false;
+    }
+    if m > LIST {
+        return false;
+    }
+    let end = m + 1;
+    let mut a = [0u16; LIST];
+    if !entries_of(&numbers[1..end], &mut a) {
+        return false;
+    }
+    with_table(operation, states, rows, &a[0..m], &numbers[end..])
+}
+
+// The numbers `k e1 .. ek` of the rows, and those after them.
+fn take_rows(operation: u64, states: u64, numbers: &[u64]) -> bool {
+    let n = numbers.len();
+    if n < 1 {
+        return false;
     }
     let k = size(numbers[0]);
-    if k > n - 2 {
-        bad_line();
-        return;
+    if k > n - 1 {
+        return false;
     }
-    let m = size(numbers[k + 1]);
-    if m != n - 2 - k {
-        bad_line();
-        return;
+    if k > LIST {
+        return false;
     }
-    answer_check(states, &numbers[1..k + 1], &numbers[k + 2..]);
+    let end = k + 1;
+    let mut r = [0u16; LIST];
+    if !entries_of(&numbers[1..end], &mut r) {
+        return false;
+    }
+    take_accepting(operation, states, &r[0..k], &numbers[end..])
+}
+
+fn answer_read(names: &[u8], text: &[u64], lent: &[u64]) -> bool {
+    let m = text.len();
+    let l = lent.len();
+    if m > LIST {
+        return false;
+    }
+    if l > LIST {
+        return false;
+    }
+    let mut t = [0u8; LIST];
+    if !bytes_of(text, &mut t) {
+        return false;
+    }
+    let mut x = [0u16; LIST];
+    if !entries_of(lent, &mut x) {
+        return false;
+    }
+    say(b"result ", term::read_term(names, &t[0..m], &mut x[0..l]));
+    say_list(&x, l);
+    true
+}
+
+fn answer_write(names: &[u8], tree: &[u64], lent: &[u64]) -> bool {
+    let m = tree.len();
+    let l = lent.len();
+    if m > LIST {
+        return false;
+    }
+    if l > LIST {
+        return false;
+    }
+    let mut t = [0u16; LIST];
+    if !entries_of(tree, &mut t) {
+        return false;
+    }
+    let mut x = [0u8; LIST];
+    if !bytes_of(lent, &mut x) {
+        return false;
+    }
+    say(b"result ", term::write_term(names, &t[0..m], &mut x[0..l]));
+    let mut shown = [0u16; LIST];
+    widen(&x, &mut shown);
+    say_list(&shown, l);
+    true
+}
+
+fn answer_term(operation: u64, names: &[u64], term: &[u64], lent: &[u64]) -> bool {
+    let k = names.len();
+    if k > LIST {
+        return false;
+    }
+    let mut n = [0u8; LIST];
+    if !bytes_of(names, &mut n) {
+        return false;
+    }
+    if operation == 4 {
+        return answer_read(&n[0..k], term, lent);
+    }
+    if operation == 5 {
+        return answer_write(&n[0..k], term, lent);
+    }
+    false
 }
 
 // The numbers `n1 .. nk m t1 .. tm l x1 .. xl` of a term.
-fn take_term(operation: u64, k: usize, numbers: &[u64]) {
+fn take_term(operation: u64, k: usize, numbers: &[u64]) -> bool {
     let n = numbers.len();
     if n < 2 {
-        bad_line();
-        return;
+        return false;
     }
     if k > n - 2 {
-        bad_line();
-        return;
+        return false;
     }
+    let left = n - 2 - k;
     let m = size(numbers[k]);
-    if m > n - 2 - k {
-        bad_line();
-        return;
+    if m > left {
+        return false;
     }
-    let l = size(numbers[k + m + 1]);
-    if l != n - 2 - k - m {
-        bad_line();
-        return;
+    let from = k + 1;
+    let end = from + m;
+    if size(numbers[end]) != left - m {
+        return false;
     }
     answer_term(
         operation,
         &numbers[0..k],
-        &numbers[k + 1..k + m + 1],
-        &numbers[k + m + 2..],
-    );
+        &numbers[from..end],
+        &numbers[end + 1..],
+    )
 }
 
-// The numbers of a line: its first two, and those after them with the short forms written out.
-fn answer_numbers(operation: u64, second: u64, numbers: &[u64]) {
-    if operation == 1 {
-        take_check(second, numbers);
-        return;
-    }
-    take_term(operation, size(second), numbers);
-}
-
-fn answer_spread(operation: u64, second: u64, numbers: &[u64; ROOM], n: usize) {
+// The numbers of a line: its first two, and the n after them, with the short forms written out.
+fn answer_numbers(operation: u64, second: u64, numbers: &[u64; ROOM], n: usize) -> bool {
     if n > ROOM {
-        bad_line();
-        return;
+        return false;
     }
     let all = &numbers[..];
-    answer_numbers(operation, second, &all[0..n]);
+    if operation < 4 {
+        return take_rows(operation, second, &all[0..n]);
+    }
+    take_term(operation, size(second), &all[0..n])
 }
 
 // How far a line's numbers are written out: the next number to be read, and the count of those written. Where they cannot be, next is 0.
@@ -528,10 +547,13 @@ fn spread_run(line: &[u64], at: usize, numbers: &mut [u64; ROOM], filled: usize)
     if count > ROOM - filled {
         return stuck();
     }
-    repeat(&line[at + 3..at + k + 3], numbers, filled, filled + count);
+    let from = at + 3;
+    let end = from + k;
+    let to = filled + count;
+    repeat(&line[from..end], numbers, filled, to);
     Reached {
-        next: at + k + 3,
-        filled: filled + count,
+        next: end,
+        filled: to,
     }
 }
 
@@ -572,27 +594,29 @@ fn spread(line: &[u64], numbers: &mut [u64; ROOM]) -> Reached {
     }
 }
 
-fn answer_line(line: Line, raw: &[u64]) {
+fn answer_case(line: Line, raw: &[u64]) -> bool {
     if !line.good {
-        bad_line();
-        return;
+        return false;
     }
     let filled = line.filled;
     if filled < 2 {
-        bad_line();
-        return;
+        return false;
     }
     if filled > raw.len() {
-        bad_line();
-        return;
+        return false;
     }
     let mut numbers = [0u64; ROOM];
     let s = spread(&raw[2..filled], &mut numbers);
     if s.next == 0 {
-        bad_line();
-        return;
+        return false;
     }
-    answer_spread(raw[0], raw[1], &numbers, s.filled);
+    answer_numbers(raw[0], raw[1], &numbers, s.filled)
+}
+
+fn answer_line(line: Line, raw: &[u64]) {
+    if !answer_case(line, raw) {
+        io::write_all(STDOUT_FILENO, b"bad line\n");
+    }
 }
 
 // The bytes of one read. A line that ends among them is answered.
@@ -607,7 +631,7 @@ fn feed_all(line: Line, numbers: &mut [u64; ROOM], bytes: &[u8]) -> Line {
             }
             Fed::Whole(l) => {
                 answer_line(l, numbers);
-                now_line = empty_line();
+                now_line = blank(true);
                 i += 1;
             }
         }
@@ -641,7 +665,7 @@ fn end(line: Line, numbers: &mut [u64; ROOM]) {
 
 fn main() {
     let mut numbers = [0u64; ROOM];
-    let mut line = empty_line();
+    let mut line = blank(true);
     let mut turns = u64::MAX;
     while turns > 0 {
         match take_turn(line, &mut numbers) {

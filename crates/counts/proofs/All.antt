@@ -32,7 +32,7 @@ rows-ordered states rows o i lt =
     rw (rowsOf-at rows i noRow l) (o .lower i l)
 
 -- the sums of earlier rows look only at the states below
-earlier-local : (rs : List Row) → Ordered rs → (c d : ℕ → ℕ) (q k : ℕ) → ((a : ℕ) → a < q → c a ≡ d a) → earlierRows rs c q k ≡ earlierRows rs d q k
+pub earlier-local : (rs : List Row) → Ordered rs → (c d : ℕ → ℕ) (q k : ℕ) → ((a : ℕ) → a < q → c a ≡ d a) → earlierRows rs c q k ≡ earlierRows rs d q k
 unfolding earlierRows
 earlier-local rs o c d q k e = ap (λ (ws : List ℕ). sum (take k ws)) (map-agree (weight c q) (weight d q) noRow rs (λ i l. weight-local c d q (getD rs i noRow) e (o i l)))
 

@@ -63,7 +63,7 @@ module _ (rows cs ls : List ℕ) (q : ℕ) where
   unfolding rowLongest
   length-other k lt ne = at-row (rowLongest (held cs) (held ls) q) k lt ∙ rw (ne-eqb _ _ ne)
 
-  earlier-skip : (i j : ℕ) → i ≤ j → j ≤ howManyRows rows → ((k : ℕ) → i ≤ k → k < j → target rows k ≡ q → ⊥)
+  pub earlier-skip : (i j : ℕ) → i ≤ j → j ≤ howManyRows rows → ((k : ℕ) → i ≤ k → k < j → target rows k ≡ q → ⊥)
       → earlierRows (rowsOf rows) (held cs) q j ≡ earlierRows (rowsOf rows) (held cs) q i
   unfolding earlierRows
   earlier-skip i j le within none =
@@ -73,12 +73,12 @@ module _ (rows cs ls : List ℕ) (q : ℕ) where
       → largest (take j lengths) ≡ largest (take i lengths)
   largest-skip i j le within none = skip largest max largest-take-suc max-zero lengths i j le (λ k a b. length-other k (omega arith) (none k a b))
 
-  earlier-more : (k : ℕ) → k < howManyRows rows → target rows k ≡ q
+  pub earlier-more : (k : ℕ) → k < howManyRows rows → target rows k ≡ q
       → earlierRows (rowsOf rows) (held cs) q (suc k) ≡ earlierRows (rowsOf rows) (held cs) q k + product (map (held cs) (rowNumbered rows k .args))
   unfolding earlierRows
   earlier-more k lt e = sum-take-suc (map (weight (held cs) q) (rowsOf rows)) k ∙ ap (λ (v : ℕ). sum (take k (map (weight (held cs) q) (rowsOf rows))) + v) (weight-mine k lt e)
 
-  all-earlier : earlierRows (rowsOf rows) (held cs) q (howManyRows rows) ≡ stateCounts (rowsOf rows) (held cs) q
+  pub all-earlier : earlierRows (rowsOf rows) (held cs) q (howManyRows rows) ≡ stateCounts (rowsOf rows) (held cs) q
   unfolding earlierRows stateCounts
   all-earlier = ap sum (take-all (howManyRows rows) (map (weight (held cs) q) (rowsOf rows)) (rw (length-map (rowsOf rows) (weight (held cs) q), rowsOf-length rows) (omega arith)))
 

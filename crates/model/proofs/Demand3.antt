@@ -5,19 +5,24 @@ use mathlib.Core.List.{List, _++_, map}
 use mathlib.Core.Logic.{_↔_}
 use native.Mathlib.Omega.{arith}
 use lib.ListN.{length, getD, drop}
-use borrow.Author.Tests.{lt-ltb, le-ltb}
+use lib.Dec.{ltb}
+use mathlib.Core.Bool.{not}
+use borrow.Author.Tests.{lt-ltb, le-ltb, ltb-false}
 use Rattle.model.specs.Answers.{Outcome, result, refused, lentAfter}
+use Rattle.model.specs.Choice.{if_then_else_}
 use Rattle.model.specs.Table.{Table, tableOf}
 use Rattle.model.specs.Tree.{Forest, Tree, serial, SymbolsInRange, WellFormed}
 use Rattle.model.specs.Reach.{Reach, none, row, Accepted}
 use Rattle.model.specs.Count.{sum, Counts, count}
 use Rattle.model.specs.Value.{numberOf, treeOf}
 use Rattle.model.specs.Order.{Exactly}
-use Rattle.model.specs.Check.{checkOutcome, countLimit}
+use Rattle.model.specs.Check.{checkOutcome, countLimit, Passes}
 use Rattle.model.specs.Entries.{treeFrom, noTree}
+use Rattle.model.specs.Place.{NotAccepted}
 use Rattle.model.specs.Number.{checkedThen, acceptedOr, numberOutcome}
 use Rattle.model.specs.Write.{entriesFor, writeOutcome, writeList}
-use Rattle.model.specs.Demand3.{AcceptsList, Refusing, Numbered, HasTree, Demand3}
+use Rattle.model.specs.Demand3.{AcceptsList, Refusing, Numbered, HasTree, PairsOff}
+use Rattle.model.proofs.Choice.{if-result}
 use Rattle.model.proofs.Good.{Good, Within}
 use Rattle.model.proofs.Checked.{NoGround, passes-just, checked-good, checked-within}
 use Rattle.model.proofs.Counting.{count-counts, total-is}
@@ -25,7 +30,7 @@ use Rattle.model.proofs.Reaching.{row-symbol}
 use Rattle.model.proofs.Longest.{forest-most}
 use Rattle.model.proofs.Serial.{serial-same}
 use Rattle.model.proofs.Entries.{tree-of, tree-from, tree-serial, tree-or-taken, tree-or-back}
-use Rattle.model.proofs.Stuck.{accepted-taken, accepted-result, NotAccepted, stuck-place}
+use Rattle.model.proofs.Stuck.{accepted-taken, accepted-result, stuck-place}
 use Rattle.model.proofs.Pairing.{exactly-map, number-below, number-same, tree-numbers, all-counted, before-counted}
 
 -- trees that reach states have symbols in range
@@ -61,7 +66,7 @@ pub record Answered (T : Table) (entries : List ℕ) (m : ℕ) : Type 0 where
   pub number : numberOf T (count T) tree ≡ m
 
 -- a table that passes
-module _ (states : ℕ) (rows accepting : List ℕ) (n : ℕ) (passes : checkOutcome states rows accepting ≡ result n) where
+module _ (states : ℕ) (rows accepting : List ℕ) (n : ℕ) (passes : Passes states rows accepting n) where
   abbrev T : Table
   T = tableOf states rows accepting
 
@@ -112,6 +117,26 @@ module _ (states : ℕ) (rows accepting : List ℕ) (n : ℕ) (passes : checkOut
   unfolding writeList
   write-list m tree l h = ap (λ (o : Outcome). lentAfter o (entriesFor states rows accepting m) tree) (write-answer m (length tree) l h)
 
+  -- written into a shorter list, it is refused and the list stays
+  pub short-answer : (m room : ℕ) → m < n → room < length (entriesFor states rows accepting m)
+      → writeOutcome states rows accepting m room ≡ refused 16 (length (entriesFor states rows accepting m))
+  unfolding writeOutcome
+  short-answer m room l h =
+      checked-then (checkOutcome states rows accepting) n _ passes ∙ rw (lt-ltb m n l, lt-ltb room (length (entriesFor states rows accepting m)) h)
+
+  pub short-list : (m : ℕ) (tree : List ℕ) → m < n → length tree < length (entriesFor states rows accepting m) → writeList states rows accepting m tree ≡ tree
+  unfolding writeList
+  short-list m tree l h = ap (λ (o : Outcome). lentAfter o (entriesFor states rows accepting m) tree) (short-answer m (length tree) l h)
+
+  -- a number not below the total is refused, and the list stays
+  pub beyond-answer : (m room : ℕ) → n ≤ m → writeOutcome states rows accepting m room ≡ refused 15 0
+  unfolding writeOutcome
+  beyond-answer m room h = checked-then (checkOutcome states rows accepting) n _ passes ∙ rw (le-ltb m n h)
+
+  pub beyond-list : (m : ℕ) (tree : List ℕ) → n ≤ m → writeList states rows accepting m tree ≡ tree
+  unfolding writeList
+  beyond-list m tree h = ap (λ (o : Outcome). lentAfter o (entriesFor states rows accepting m) tree) (beyond-answer m (length tree) h)
+
   -- ---- the parts of demand 3
 
   accepts-counted : Exactly (AcceptsList T) n
@@ -147,6 +172,7 @@ module _ (states : ℕ) (rows accepting : List ℕ) (n : ℕ) (passes : checkOut
         numbers = number-answer (treeOf T (count T) m) (t .accepted) ∙ ap result (t .number);
         answer = λ tree h. write-answer m (length tree) l h;
         list = λ tree h. write-list m tree l h;
+        short = λ tree h. (short-answer m (length tree) l h, short-list m tree l h);
       }
 
   -- refused exactly if not accepted, however long the list is
@@ -176,12 +202,36 @@ module _ (states : ℕ) (rows accepting : List ℕ) (n : ℕ) (passes : checkOut
       ∙ e)
 
 -- demand 3
-pub demand3 : (states : ℕ) (rows accepting : List ℕ) (n : ℕ) → checkOutcome states rows accepting ≡ result n → Demand3 states rows accepting n
+pub demand3 : PairsOff
 demand3 states rows accepting n passes =
     record {
       accepted = accepts-counted states rows accepting n passes;
       numbered = accepts-numbered states rows accepting n passes;
       different = numbers-differ states rows accepting n passes;
       back = number-has-tree states rows accepting n passes;
-      refuses = λ entries w l. refused-exactly states rows accepting n passes entries;
+      beyond = λ m h tree. (beyond-answer states rows accepting n passes m (length tree) h, beyond-list states rows accepting n passes m tree h);
+      refuses = refused-exactly states rows accepting n passes;
+      places = number-refused states rows accepting n passes;
     }
+
+-- the result is the length of what is written, which fits the list
+pub write-tree-back : (states : ℕ) (rows accepting : List ℕ) (number room n : ℕ) → writeOutcome states rows accepting number room ≡ result n
+    → (n ≡ length (entriesFor states rows accepting number)) × (n ≤ room)
+unfolding writeOutcome
+write-tree-back states rows accepting number room n e = go (checkOutcome states rows accepting) e
+  where
+    needed : ℕ
+    needed = length (entriesFor states rows accepting number)
+
+    go : (o : Outcome)
+        → checkedThen o (λ total. if not (ltb number total) then refused 15 0 else if ltb room needed then refused 16 needed else result needed) ≡ result n → (n ≡ needed) × (n ≤ room)
+    go (refused k p) h = let z : _≡_ {A = ℕ} 0 1 = cc in absurd (omega arith)
+    go (result total) h =
+        let a = if-result (not (ltb number total)) 15 0 n _ h in
+        let b = if-result (ltb room needed) 16 needed n _ (a .1) in
+        let d = b .1 in
+        let c : needed ≡ n = cc in
+        (sym c, omega (arith, ltb-false room needed (b .0)))
+
+pub write-tree-fits : (states : ℕ) (rows accepting : List ℕ) (number room n : ℕ) → writeOutcome states rows accepting number room ≡ result n → n ≤ room
+write-tree-fits states rows accepting number room n e = write-tree-back states rows accepting number room n e .1

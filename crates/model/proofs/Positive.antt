@@ -1,20 +1,25 @@
 -- No refusal has the number 0: a caller who gets 0 has a result.
-use Prim.Native.Nat.{ℕ, _<_}
+use Prim.Native.Nat.{ℕ, suc, _+_, _-_, _<_}
 use mathlib.Core.Path.{_≡_, sym, _∙_}
-use mathlib.Core.Bool.{Bool, true, false}
+use mathlib.Core.Bool.{Bool, true, false, not}
 use mathlib.Core.List.{List}
 use native.Mathlib.Omega.{arith}
 use lib.ListN.{length}
 use lib.Dec.{eqb, ltb}
 use Rattle.model.specs.Answers.{Outcome, result, refused}
 use Rattle.model.specs.Choice.{if_then_else_, firstFaulty}
-use Rattle.model.specs.Table.{tableOf, howManyRows, acceptingStates}
-use Rattle.model.specs.Count.{total}
+use Rattle.model.specs.Table.{Table, tableOf, howManyRows, acceptingStates}
+use Rattle.model.specs.Tree.{Forest, empty, node, only, serialForest, serial}
+use Rattle.model.specs.Reach.{stateOf, entryOf}
+use Rattle.model.specs.Value.{numberOf}
+use Rattle.model.specs.Count.{count, total}
 use Rattle.model.specs.Check.{rowGround, acceptingGround, stateGround, checkWithin, checkOutcome, countLimit}
 use Rattle.model.specs.Names.{howManyNames, lineGround, namesOr}
-use Rattle.model.specs.Entries.{entryGround, endsTooSoon, formOr, treeOr}
+use Rattle.model.specs.Entries.{entryGround, endsTooSoon, formOr, treeOr, treeFrom}
 use Rattle.model.specs.Term.{Scan, passes, breaksAt, breakOr, scan, due, termOr}
 use Rattle.model.specs.TermOperations.{entriesOf, bytesOf, nameGround, symbolGround, readTermOutcome, writeTermOutcome}
+use Rattle.model.specs.Number.{checkedThen, reachesNone, stuckOr, acceptedOr, numberOutcome}
+use Rattle.model.specs.Write.{entriesFor, writeOutcome}
 use Rattle.model.proofs.Choice.{Decided, clear, faulty, decided}
 
 -- where the outcome is a refusal, its number is not 0
@@ -90,3 +95,34 @@ write-positive names tree room =
     names-positive names _
     (tree-positive tree _
     (positive-first (length tree) (symbolGround names tree) _ (positive-if (ltb room needed) 24 needed _ (omega arith) (positive-result needed))))
+
+-- numbering a tree, and writing the tree of a number
+then-positive : (o : Outcome) (f : ℕ → Outcome) → Positive o → ((total : ℕ) → Positive (f total)) → Positive (checkedThen o f)
+then-positive (result total) f h g = g total
+then-positive (refused m q) f h g = h
+
+stuck-positive : (T : Table) (f : Forest) (place : ℕ) (o : Outcome) → Positive o → Positive (stuckOr T f place o)
+unfolding stuckOr
+stuck-positive T empty place o h = h
+stuck-positive T (node s children right) place o h =
+    let bar = suc place + length (serialForest children) in
+    stuck-positive T children (suc place) _ (positive-if (reachesNone T s children) 14 bar _ (omega arith) (stuck-positive T right (suc bar) o h))
+
+pub number-positive : (states : ℕ) (rows accepting tree : List ℕ) → Positive (numberOutcome states rows accepting tree)
+unfolding numberOutcome acceptedOr
+number-positive states rows accepting tree =
+    let T = tableOf states rows accepting in
+    let t = treeFrom tree in
+    then-positive (checkOutcome states rows accepting) _ (check-positive states rows accepting)
+    (λ total. tree-positive tree _ (stuck-positive T (only t) 0 _ (listed (ltb (entryOf (T .accepting) (stateOf T t)) (length (T .accepting))) (numberOf T (count T) t) (length (serial t) - 1))))
+  where
+    listed : (b : Bool) (n p : ℕ) → Positive (if b then result n else refused 14 p)
+    listed true n p = positive-result n
+    listed false n p = positive-refused 14 p (omega arith)
+
+pub write-tree-positive : (states : ℕ) (rows accepting : List ℕ) (number room : ℕ) → Positive (writeOutcome states rows accepting number room)
+unfolding writeOutcome
+write-tree-positive states rows accepting number room =
+    let needed = length (entriesFor states rows accepting number) in
+    then-positive (checkOutcome states rows accepting) _ (check-positive states rows accepting)
+    (λ total. positive-if (not (ltb number total)) 15 0 _ (omega arith) (positive-if (ltb room needed) 16 needed _ (omega arith) (positive-result needed)))

@@ -1,15 +1,15 @@
 -- The starred facts of "The paper's own table", by computation: a single claim over a single list.
-use Prim.Native.Nat.{ℕ}
+use Prim.Native.Nat.{ℕ, _+_}
 use mathlib.Core.Path.{_≡_, refl, ap, sym, _∙_}
 use mathlib.Core.Bool.{not}
-use lib.ListN.{length, getD}
+use lib.ListN.{length, getD, take}
 use lib.Dec.{ltb}
 use mathlib.Core.List.{List, [], _∷_, map}
 use Rattle.model.specs.Answers.{Outcome, result, refused}
 use Rattle.model.specs.Choice.{if_then_else_, refuseOn, firstFaulty, anyBelow}
-use Rattle.model.specs.Table.{Row, Table, pack, tableOf, rowStart, howMany, howManyRows, firstRows, rowsOf, sameList, rowIs}
-use Rattle.model.specs.Tree.{serialForest, serial}
-use Rattle.model.specs.Reach.{rowWith, statesOf, entryOf}
+use Rattle.model.specs.Table.{Row, Table, noRow, pack, tableOf, rowStart, howMany, howManyRows, firstRows, rowsOf, sameList, rowIs}
+use Rattle.model.specs.Tree.{Tree, serialForest, serial}
+use Rattle.model.specs.Reach.{targetOf, rowWith, statesOf, rowOf, stateOf, entryOf}
 use Rattle.model.specs.Count.{sum, product, weight, stateCounts, grow, count, total, largest, rowLongest, stateLongest, longest}
 use Rattle.model.specs.Value.{horner, earlierRows, rowValue, valuesOf, numberOf}
 use Rattle.model.specs.Check.{allBelow, cut, tooMany, outOfRange, notBelow, repeated, rowGround, acceptingGround, stateGround, checkWithin, checkOutcome}
@@ -24,48 +24,86 @@ use Rattle.model.proofs.Counting.{map-agree}
 use Rattle.model.proofs.Rows.{rowsOf-pack}
 use Rattle.model.proofs.Demand3.{checked-then}
 
--- what is said of a term, of a tree's entries, of a number, of the empty table
-data Fact : Type 0 where
-  term : (text : List ℕ) → Outcome → Fact
-  tree : (entries : List ℕ) → Outcome → Fact
-  number : ℕ → Outcome → Fact
-  nothing : Outcome → Fact
+-- what a fact says: an answer, or the parts of a number: the children's values, the counts of their states, what these give, the counts of
+-- the earlier rows, the counts of the accepting states listed earlier
+pub data Said : Type 0 where
+  answer : Outcome → Said
+  parts : (values counts : List ℕ) (fromChildren fromRows fromStates : ℕ) → Said
 
-abbrev given : Fact → Outcome
-given (term text due) = numberOutcome 5 paperRows (2 ∷ 4 ∷ []) (entriesOf (97 ∷ 10 ∷ 98 ∷ 10 ∷ []) text)
-given (tree entries due) = numberOutcome 5 paperRows (2 ∷ 4 ∷ []) entries
-given (number n due) = writeOutcome 5 paperRows (2 ∷ 4 ∷ []) n 4096
-given (nothing due) = checkOutcome 0 [] []
+-- of the number of a term, of its parts, of the number of a tree's entries, of writing a number's tree, of checking the empty table
+pub data Fact : Type 0 where
+  term : (text : List ℕ) → Said → Fact
+  sum-of : (text : List ℕ) → Said → Fact
+  tree : (entries : List ℕ) → Said → Fact
+  number : ℕ → Said → Fact
+  nothing : Said → Fact
 
-abbrev due : Fact → Outcome
-due (term text o) = o
-due (tree entries o) = o
-due (number n o) = o
-due (nothing o) = o
+-- the entries of a term's tree
+abbrev pub entriesIn : List ℕ → List ℕ
+entriesIn text = entriesOf (97 ∷ 10 ∷ 98 ∷ 10 ∷ []) text
 
-facts : List Fact
+-- the parts of a tree's number: what `rowValue` and `numberOf` add up
+abbrev pub partsOf : Table → (ℕ → ℕ) → Tree → Said
+partsOf T c t =
+    let i = rowOf T (t .symbol) (t .children) in
+    let values = valuesOf T c (t .children) in
+    parts values
+    (map c (statesOf T (t .children)))
+    (horner c 0 (getD (T .rows) i noRow .args) values)
+    (earlierRows (T .rows) c (targetOf T i) i)
+    (sum (take (entryOf (T .accepting) (stateOf T t)) (map c (T .accepting))))
+
+-- added up, they are the tree's number
+abbrev pub added : Said → ℕ
+added (answer o) = 0
+added (parts values counts fromChildren fromRows fromStates) = fromChildren + fromRows + fromStates
+
+pub parts-add : (T : Table) (c : ℕ → ℕ) (t : Tree) → added (partsOf T c t) ≡ numberOf T c t
+unfolding numberOf valuesOf rowValue
+parts-add T c t = refl
+
+-- what the definitions give, the list for a tree being of any length
+abbrev pub given : (room : ℕ) → Fact → Said
+given room (term text s) = answer (numberOutcome 5 paperRows (2 ∷ 4 ∷ []) (entriesIn text))
+given room (sum-of text s) =
+    let T = tableOf 5 paperRows (2 ∷ 4 ∷ []) in
+    partsOf T (count T) (treeFrom (entriesIn text))
+given room (tree entries s) = answer (numberOutcome 5 paperRows (2 ∷ 4 ∷ []) entries)
+given room (number n s) = answer (writeOutcome 5 paperRows (2 ∷ 4 ∷ []) n room)
+given room (nothing s) = answer (checkOutcome 0 [] [])
+
+abbrev pub due : Fact → Said
+due (term text s) = s
+due (sum-of text s) = s
+due (tree entries s) = s
+due (number n s) = s
+due (nothing s) = s
+
+pub facts : List Fact
 facts =
     -- a(a,a)
-    term (97 ∷ 40 ∷ 97 ∷ 44 ∷ 97 ∷ 41 ∷ []) (result 0)
+    term (97 ∷ 40 ∷ 97 ∷ 44 ∷ 97 ∷ 41 ∷ []) (answer (result 0))
     -- b(a,b)
-    ∷ term (98 ∷ 40 ∷ 97 ∷ 44 ∷ 98 ∷ 41 ∷ []) (result 1)
+    ∷ term (98 ∷ 40 ∷ 97 ∷ 44 ∷ 98 ∷ 41 ∷ []) (answer (result 1))
     -- a(a(a,a),b(a,b))
-    ∷ term (97 ∷ 40 ∷ 97 ∷ 40 ∷ 97 ∷ 44 ∷ 97 ∷ 41 ∷ 44 ∷ 98 ∷ 40 ∷ 97 ∷ 44 ∷ 98 ∷ 41 ∷ 41 ∷ []) (result 3)
+    ∷ term (97 ∷ 40 ∷ 97 ∷ 40 ∷ 97 ∷ 44 ∷ 97 ∷ 41 ∷ 44 ∷ 98 ∷ 40 ∷ 97 ∷ 44 ∷ 98 ∷ 41 ∷ 41 ∷ []) (answer (result 3))
     -- a(b(a,b),a(a,a))
-    ∷ term (97 ∷ 40 ∷ 98 ∷ 40 ∷ 97 ∷ 44 ∷ 98 ∷ 41 ∷ 44 ∷ 97 ∷ 40 ∷ 97 ∷ 44 ∷ 97 ∷ 41 ∷ 41 ∷ []) (result 4)
+    ∷ term (97 ∷ 40 ∷ 98 ∷ 40 ∷ 97 ∷ 44 ∷ 98 ∷ 41 ∷ 44 ∷ 97 ∷ 40 ∷ 97 ∷ 44 ∷ 97 ∷ 41 ∷ 41 ∷ []) (answer (result 4))
     -- b(a(a,a),a(b,a),b)
-    ∷ term (98 ∷ 40 ∷ 97 ∷ 40 ∷ 97 ∷ 44 ∷ 97 ∷ 41 ∷ 44 ∷ 97 ∷ 40 ∷ 98 ∷ 44 ∷ 97 ∷ 41 ∷ 44 ∷ 98 ∷ 41 ∷ []) (result 6)
+    ∷ term (98 ∷ 40 ∷ 97 ∷ 40 ∷ 97 ∷ 44 ∷ 97 ∷ 41 ∷ 44 ∷ 97 ∷ 40 ∷ 98 ∷ 44 ∷ 97 ∷ 41 ∷ 44 ∷ 98 ∷ 41 ∷ []) (answer (result 6))
     -- b(b(a,b),a(b,b),b)
-    ∷ term (98 ∷ 40 ∷ 98 ∷ 40 ∷ 97 ∷ 44 ∷ 98 ∷ 41 ∷ 44 ∷ 97 ∷ 40 ∷ 98 ∷ 44 ∷ 98 ∷ 41 ∷ 44 ∷ 98 ∷ 41 ∷ []) (result 10)
+    ∷ term (98 ∷ 40 ∷ 98 ∷ 40 ∷ 97 ∷ 44 ∷ 98 ∷ 41 ∷ 44 ∷ 97 ∷ 40 ∷ 98 ∷ 44 ∷ 98 ∷ 41 ∷ 44 ∷ 98 ∷ 41 ∷ []) (answer (result 10))
+    -- "1 times 3 plus 1 is 4, plus the 4 of the earlier row, plus the 2 of state 2."
+    ∷ sum-of (98 ∷ 40 ∷ 98 ∷ 40 ∷ 97 ∷ 44 ∷ 98 ∷ 41 ∷ 44 ∷ 97 ∷ 40 ∷ 98 ∷ 44 ∷ 98 ∷ 41 ∷ 44 ∷ 98 ∷ 41 ∷ []) (parts (1 ∷ 1 ∷ 0 ∷ []) (2 ∷ 3 ∷ 1 ∷ []) 4 4 2)
     -- b(b(a,b),b(b,b),b)
-    ∷ term (98 ∷ 40 ∷ 98 ∷ 40 ∷ 97 ∷ 44 ∷ 98 ∷ 41 ∷ 44 ∷ 98 ∷ 40 ∷ 98 ∷ 44 ∷ 98 ∷ 41 ∷ 44 ∷ 98 ∷ 41 ∷ []) (result 11)
+    ∷ term (98 ∷ 40 ∷ 98 ∷ 40 ∷ 97 ∷ 44 ∷ 98 ∷ 41 ∷ 44 ∷ 98 ∷ 40 ∷ 98 ∷ 44 ∷ 98 ∷ 41 ∷ 44 ∷ 98 ∷ 41 ∷ []) (answer (result 11))
     -- Number 12 is 15.
-    ∷ number 12 (refused 15 0)
+    ∷ number 12 (answer (refused 15 0))
     -- Tree `1 0` is 14 at 1. `2 1 0 1 0 0` is 14 at 5.
-    ∷ tree (1 ∷ 0 ∷ []) (refused 14 1)
-    ∷ tree (2 ∷ 1 ∷ 0 ∷ 1 ∷ 0 ∷ 0 ∷ []) (refused 14 5)
+    ∷ tree (1 ∷ 0 ∷ []) (answer (refused 14 1))
+    ∷ tree (2 ∷ 1 ∷ 0 ∷ 1 ∷ 0 ∷ 0 ∷ []) (answer (refused 14 5))
     -- No states, rows or accepting entries: total 0.
-    ∷ nothing (result 0)
+    ∷ nothing (answer (result 0))
     ∷ []
 
 -- the paper's table, its counts and what numbering a tree of it answers, found once
@@ -98,8 +136,8 @@ unfolding paperTable plainTable
 table-is = ap (λ (rows : List ℕ). tableOf 5 rows (2 ∷ 4 ∷ [])) (sym packed) ∙ ap (λ (rows : List Row). record { states = 5; rows = rows; accepting = 2 ∷ 4 ∷ [] }) (rowsOf-pack (plainTable .rows))
 
 -- what writing answers of entries, the total being 12
-abbrev fitting : ℕ → List ℕ → Outcome
-fitting n entries = if not (ltb n 12) then refused 15 0 else if ltb 4096 (length entries) then refused 16 (length entries) else result (length entries)
+abbrev fitting : (n room : ℕ) → List ℕ → Outcome
+fitting n room entries = if not (ltb n 12) then refused 15 0 else if ltb room (length entries) then refused 16 (length entries) else result (length entries)
 
 abbrev plainCount : ℕ → ℕ
 plainCount q = getD (1 ∷ 1 ∷ 2 ∷ 3 ∷ 10 ∷ []) q 0
@@ -126,27 +164,33 @@ number-by entries =
     ∙ ap (λ (T : Table). treeOr entries (acceptedOr T (treeFrom entries) (result (numberOf T (count T) (treeFrom entries))))) table-is
     ∙ ap (λ (c : ℕ → ℕ). treeOr entries (acceptedOr plainTable (treeFrom entries) (result (numberOf plainTable c (treeFrom entries))))) count-is
 
-write-by : (n : ℕ) → writeOutcome 5 paperRows (2 ∷ 4 ∷ []) n 4096 ≡ fitting n (entriesFor 5 paperRows (2 ∷ 4 ∷ []) n)
+write-by : (n room : ℕ) → writeOutcome 5 paperRows (2 ∷ 4 ∷ []) n room ≡ fitting n room (entriesFor 5 paperRows (2 ∷ 4 ∷ []) n)
 unfolding writeOutcome
-write-by n = checked-then (checkOutcome 5 paperRows (2 ∷ 4 ∷ [])) 12 _ passes
+write-by n room = checked-then (checkOutcome 5 paperRows (2 ∷ 4 ∷ [])) 12 _ passes
+
+parts-by : (t : Tree) → partsOf (tableOf 5 paperRows (2 ∷ 4 ∷ [])) (count (tableOf 5 paperRows (2 ∷ 4 ∷ []))) t ≡ partsOf plainTable plainCount t
+unfolding paperTable
+parts-by t = ap (λ (T : Table). partsOf T (count T) t) table-is ∙ ap (λ (c : ℕ → ℕ). partsOf plainTable c t) count-is
 
 -- the same, said by these
-abbrev quick : Fact → Outcome
-quick (term text o) = decided (entriesOf (97 ∷ 10 ∷ 98 ∷ 10 ∷ []) text)
-quick (tree entries o) = decided entries
-quick (number n o) = fitting n (entriesFor 5 paperRows (2 ∷ 4 ∷ []) n)
-quick (nothing o) = checkOutcome 0 [] []
+abbrev quick : (room : ℕ) → Fact → Said
+quick room (term text s) = answer (decided (entriesIn text))
+quick room (sum-of text s) = partsOf plainTable plainCount (treeFrom (entriesIn text))
+quick room (tree entries s) = answer (decided entries)
+quick room (number n s) = answer (fitting n room (entriesFor 5 paperRows (2 ∷ 4 ∷ []) n))
+quick room (nothing s) = answer (checkOutcome 0 [] [])
 
-given-quick : (f : Fact) → given f ≡ quick f
-given-quick (term text o) = number-by (entriesOf (97 ∷ 10 ∷ 98 ∷ 10 ∷ []) text)
-given-quick (tree entries o) = number-by entries
-given-quick (number n o) = write-by n
-given-quick (nothing o) = refl
+given-quick : (room : ℕ) (f : Fact) → given room f ≡ quick room f
+given-quick room (term text s) = ap answer (number-by (entriesIn text))
+given-quick room (sum-of text s) = parts-by (treeFrom (entriesIn text))
+given-quick room (tree entries s) = ap answer (number-by entries)
+given-quick room (number n s) = ap answer (write-by n room)
+given-quick room (nothing s) = refl
 
-computed : map quick facts ≡ map due facts
+computed : (room : ℕ) → map (quick room) facts ≡ map due facts
 unfolding facts plainTable refuseOn firstFaulty anyBelow howMany howManyRows firstRows rowsOf sameList rowIs serialForest serial rowWith statesOf entryOf sum product weight horner earlierRows rowValue valuesOf numberOf checkWithin checkOutcome stateCounts grow count total isLetter isNameByte sameName linesOf lineWith symbolOf openAfter entryGround endsTooSoon formOr treeOr levelsOf treeFrom textOfTerms textOf before seenFrom termFrom symbolsOf entriesOf reachesNone stuckOr acceptedOr
-computed = refl
+computed room = refl
 
 -- every starred fact follows from the definitions
-starred : map given facts ≡ map due facts
-starred = map-agree given quick (nothing (result 0)) facts (λ i l. given-quick (getD facts i (nothing (result 0)))) ∙ computed
+pub starred : (room : ℕ) → map (given room) facts ≡ map due facts
+starred room = map-agree (given room) (quick room) (nothing (answer (result 0))) facts (λ i l. given-quick room (getD facts i (nothing (answer (result 0))))) ∙ computed room

@@ -17,6 +17,7 @@ use Rattle.model.specs.Table.{Table}
 use Rattle.model.specs.Tree.{Forest, Tree, empty, node, only, serialForest, serial, SymbolsInRange}
 use Rattle.model.specs.Reach.{Reach, none, row, Reaches, Accepted, targetOf, statesOf, rowOf, stateOf, entryOf}
 use Rattle.model.specs.Number.{reachesNone, stuckOr, acceptedOr}
+use Rattle.model.specs.Place.{Closes, BarsClose, ReachesSome, NotAccepted, stuck, unlisted}
 use Rattle.model.proofs.Choice.{if-yes, if-no, if-result, else-result, refused-number, refused-place, not-both}
 use Rattle.model.proofs.Good.{AllBelow, below-none, below-cons, Good}
 use Rattle.model.proofs.Longest.{forest-length, serial-length, row-fits}
@@ -103,14 +104,6 @@ module _ (T : Table) (good : Good T) where
   accepted-result t k m e = let a = accepted-back t m (result k) e in let d = a .1 in (a .0, let z : k ≡ m = cc in z)
 
 -- ---- bars, and the subtrees that they close
-
--- the bar at place i closes the tree: its entries end there
-pub record Closes (entries : List ℕ) (i : ℕ) (t : Tree) : Type 0 where
-  pub before : List ℕ
-  pub after : List ℕ
-  pub symbols : SymbolsInRange (only t)
-  pub split : entries ≡ before ++ serial t ++ after
-  pub place : length before + length (serial t) ≡ suc i
 
 -- how many bars of the entries close nodes opened before them
 unfoldable owed : List ℕ → ℕ
@@ -229,11 +222,7 @@ closes-first s k r h =
       place = omega (arith, length-append (serialForest k) (0 ∷ []));
     }
 
--- each bar before place n closes a tree with the property
-abbrev pub BarsClose : (Tree → Type 0) → List ℕ → ℕ → Type 0
-BarsClose P entries n = (i : ℕ) → i < n → getD entries i 0 ≡ 0 → (u : Tree) × Closes entries i u × P u
-
--- so each tree that is closed there has the property
+-- where each bar closes a tree with the property, each tree that is closed there has it
 pub bars-each : {P : Tree → Type 0} {entries : List ℕ} {n i : ℕ} {t : Tree} → BarsClose P entries n → Closes entries i t → i < n → P t
 bars-each {P} {i} b c l = let p = b i l (closes-bar c) in subst P (closes-once (p .1) c) (p .2)
 
@@ -280,16 +269,6 @@ bars-right P s k r h n b p d i m e = go (three i (suc (length (serialForest k)))
     go (gt l) = later (i - length (serialForest k) - 2) (omega arith)
 
 -- ---- the place of 14
-
--- the tree reaches a state
-abbrev pub ReachesSome : Table → Tree → Type 0
-ReachesSome T t = (q : ℕ) × Reaches (T .rows) t q
-
--- "Its place is the first bar that closes a subtree reaching no state; if the whole tree reaches a state that is not listed, it is the last bar."
-pub data NotAccepted (T : Table) (t : Tree) (place : ℕ) : Type 0 where
-  stuck : (u : Tree) → Closes (serial t) place u → ((q : ℕ) → Reaches (T .rows) u q → ⊥) → BarsClose (ReachesSome T) (serial t) place → NotAccepted T t place
-  unlisted : BarsClose (ReachesSome T) (serial t) (length (serial t)) → (q : ℕ) → Reaches (T .rows) t q
-      → ((i : ℕ) → i < length (T .accepting) → getD (T .accepting) i 0 ≡ q → ⊥) → suc place ≡ length (serial t) → NotAccepted T t place
 
 -- what a forest at a place answers
 data Walked (T : Table) (f : Forest) (place : ℕ) (o answer : Outcome) : Type 0 where

@@ -173,7 +173,7 @@ rest-decides {c} q v {qs} {vs} {vs′} b b′ l =
 -- ---- the tree of a value through more states
 
 -- the row that is found has arguments below its target; where none is, there are no arguments
-found-args : (rows : List Row) → Ordered rows → (c : ℕ → ℕ) (q h : ℕ) → AllBelow q (getD rows (findBy (map (weight c q) rows) h .which) noRow .args)
+pub found-args : (rows : List Row) → Ordered rows → (c : ℕ → ℕ) (q h : ℕ) → AllBelow q (getD rows (findBy (map (weight c q) rows) h .which) noRow .args)
 found-args rows o c q h = go (decLe (sum ws) h)
   where
     ws : List ℕ

@@ -69,7 +69,7 @@ outcome (Result n) = result n
 outcome (Refused r) = refused (kindNumber (r .kind)) (r .place)
 
 -- "written at the front; later entries stay"; "written at the front; later bytes stay"; "A refusal writes to no lent list." A result n is
--- the length of what is written (the laws `read-exactly` and `write-exactly`)
+-- the length of what is written (for terms the laws `read-exactly` and `write-exactly`, for trees `write-tree-back`)
 abbrev pub lentAfter : Outcome → (written old : List ℕ) → List ℕ
 lentAfter (result n) written old = written ++ drop (length written) old
 lentAfter (refused number place) written old = old

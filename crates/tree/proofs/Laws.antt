@@ -38,12 +38,12 @@ unfolding stepOf
 step-is s e h z y b p q r t = rw (p, q, r, t)
 
 -- how a step comes about
-opens-by : (t z : Bool) (x y n : Reading) → (if t then Refuses else if z then Closes x else Opens y) ≡ Opens n → (t ≡ false) × (z ≡ false) × (n ≡ y)
+pub opens-by : (t z : Bool) (x y n : Reading) → (if t then Refuses else if z then Closes x else Opens y) ≡ Opens n → (t ≡ false) × (z ≡ false) × (n ≡ y)
 opens-by true z x y n e = let w : _≡_ {A = ℕ} 0 1 = cc in absurd (omega arith)
 opens-by false true x y n e = let w : _≡_ {A = ℕ} 0 1 = cc in absurd (omega arith)
 opens-by false false x y n e = (refl, refl, cc)
 
-closes-by : (t z : Bool) (x y n : Reading) → (if t then Refuses else if z then Closes x else Opens y) ≡ Closes n → (t ≡ false) × (z ≡ true) × (n ≡ x)
+pub closes-by : (t z : Bool) (x y n : Reading) → (if t then Refuses else if z then Closes x else Opens y) ≡ Closes n → (t ≡ false) × (z ≡ true) × (n ≡ x)
 closes-by true z x y n e = let w : _≡_ {A = ℕ} 0 1 = cc in absurd (omega arith)
 closes-by false true x y n e = (refl, refl, cc)
 closes-by false false x y n e = let w : _≡_ {A = ℕ} 0 1 = cc in absurd (omega arith)

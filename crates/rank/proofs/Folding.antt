@@ -1,0 +1,96 @@
+-- A node's value from those of its children. Assumes nothing.
+use Prim.Native.Nat.{ℕ, zero, suc, _+_, _*_, _<_, _≤_, pred}
+use mathlib.Core.Path.{_≡_, refl, ap}
+use mathlib.Core.List.{List, [], _∷_, map}
+use native.Mathlib.Omega.{arith}
+use native.Mathlib.Nat.{le-mul-of-pos-right}
+use lib.ListN.{length, getD, drop, drop-of-length-le}
+use Rattle.model.specs.Table.{rowNumbered, rowIs}
+use Rattle.model.specs.Count.{product}
+use Rattle.model.specs.Value.{horner}
+use Rattle.model.specs.Check.{countLimit}
+use Rattle.model.proofs.Lists.{drop-next}
+use Rattle.model.proofs.Values.{ValuesBelow, none-below, also-below, below-length, horner-from, horner-less}
+use Rattle.chains.specs.declared.Found.the-variants.{At, Nothing}
+use Rattle.chains.proofs.First.{first-is}
+use Rattle.rows.specs.Laid.{Laid}
+use Rattle.index.specs.Index.{rowFound}
+use Rattle.counts.specs.States.{held}
+use Rattle.rank.specs.declared.Node.the-variants.{Reaches, Stuck}
+use Rattle.rank.specs.Machine.{nodeOf}
+use Rattle.rank.specs.Ready.{Valued, Foldable, Closable}
+
+-- ---- Horner's way, child by child
+
+below-each : (c : ℕ → ℕ) (xs vs : List ℕ) → length vs ≡ length xs → ((k : ℕ) → k < length xs → getD vs k 0 < c (getD xs k 0)) → ValuesBelow c xs vs
+below-each c [] [] e h = none-below
+below-each c [] (v ∷ vs) e h = absurd (omega arith)
+below-each c (x ∷ xs) [] e h = absurd (omega arith)
+below-each c (x ∷ xs) (v ∷ vs) e h = also-below (h 0 (omega arith)) (below-each c xs vs (ap pred e) (λ k l. h (suc k) (omega arith)))
+
+below-drop : {c : ℕ → ℕ} {xs vs : List ℕ} (i : ℕ) → ValuesBelow c xs vs → ValuesBelow c (drop i xs) (drop i vs)
+below-drop zero b = b
+below-drop (suc i) none-below = none-below
+below-drop (suc i) (also-below l b) = below-drop i b
+
+pub valued-below : {cs xs vs : List ℕ} → Valued cs xs vs → ValuesBelow (held cs) xs vs
+valued-below {cs} {xs} {vs} v = below-each (held cs) xs vs (v .many) (v .below)
+
+-- what is found so far is no more than what is found in the end
+horner-least : {c : ℕ → ℕ} {xs vs : List ℕ} (h : ℕ) → ValuesBelow c xs vs → h ≤ horner c h xs vs
+horner-least {c} {xs} {vs} h b =
+    let less = horner-less b in
+    let l : h ≤ h * product (map c xs) = le-mul-of-pos-right h (omega arith) in
+    omega (arith, horner-from c h xs vs (below-length b))
+
+-- i children are taken in
+pub record Folding (cs xs vs : List ℕ) (h i : ℕ) : Type 0 where
+  pub within : i ≤ length xs
+  pub same : horner (held cs) h (drop i xs) (drop i vs) ≡ horner (held cs) 0 xs vs
+
+pub fold-begins : (cs xs vs : List ℕ) → Folding cs xs vs 0 0
+fold-begins cs xs vs = record { within = omega arith; same = refl }
+
+module _ {cs xs vs : List ℕ} {h i : ℕ} (f : Folding cs xs vs h i) (l : i < length xs) (m : length vs ≡ length xs) where
+  next-same : horner (held cs) (h * held cs (getD xs i 0) + getD vs i 0) (drop (i + 1) xs) (drop (i + 1) vs) ≡ horner (held cs) 0 xs vs
+  unfolding horner
+  next-same = rw (drop-next xs i l, drop-next vs i (omega arith)) at (f .same)
+
+  pub fold-goes : (x h′ : ℕ) → x ≡ getD xs i 0 → h′ ≡ h * held cs x + getD vs i 0 → Folding cs xs vs h′ (i + 1)
+  fold-goes x h′ e d = record { within = omega arith; same = rw (d, e) next-same }
+
+  pub fold-fits : (x : ℕ) → x ≡ getD xs i 0 → Foldable cs xs vs → h * held cs x + getD vs i 0 ≤ countLimit
+  fold-fits x e b =
+      let v = valued-below (b .valued) in
+      let g = horner-least (h * held cs (getD xs i 0) + getD vs i 0) (below-drop (i + 1) v) in
+      rw e (omega (arith, g, next-same, horner-less v, b .small))
+
+pub fold-ends : {cs xs vs : List ℕ} {h i : ℕ} → Folding cs xs vs h i → length xs ≤ i → h ≡ horner (held cs) 0 xs vs
+unfolding horner
+fold-ends {cs} {xs} {vs} {h} {i} f g = rw (drop-of-length-le xs {i = i} g) at (f .same)
+
+-- ---- the row of a node
+
+module _ {rows offsets : List ℕ} {n : ℕ} (laid : Laid rows offsets n) (s : ℕ) (xs : List ℕ) (k : ℕ) (found : rowFound rows n s xs ≡ At k) where
+  pub found-inside : k < n
+  found-inside = first-is (λ k. rowIs (rowNumbered rows k) s xs) n k found .0
+
+  pub found-whole : (at : ℕ) → at ≡ getD offsets k 0 → at + 3 ≤ length rows
+  found-whole at e = omega (arith, laid .starts k found-inside, laid .whole k found-inside)
+
+  pub node-reaches : (cs sums vs : List ℕ) (at h : ℕ) → at ≡ getD offsets k 0 → h ≡ horner (held cs) 0 xs vs
+      → Reaches (getD rows (at + 1) 0) (h + getD sums k 0) ≡ nodeOf rows n cs sums s xs vs
+  unfolding nodeOf
+  node-reaches cs sums vs at h e d = rw (found, e, laid .starts k found-inside, d)
+
+pub node-stuck : (rows : List ℕ) (n : ℕ) (cs sums : List ℕ) (s : ℕ) (xs vs : List ℕ) → rowFound rows n s xs ≡ Nothing → Stuck ≡ nodeOf rows n cs sums s xs vs
+unfolding nodeOf
+node-stuck rows n cs sums s xs vs e = rw e
+
+-- what a closable node needs
+module _ {rows : List ℕ} {n : ℕ} {cs sums : List ℕ} {s : ℕ} {xs vs : List ℕ} (b : Closable rows n cs sums s xs vs) (k : ℕ) (found : rowFound rows n s xs ≡ At k) where
+  pub closable-folds : Foldable cs xs vs
+  closable-folds = record { valued = b .valued; small = omega (arith, b .small k found) }
+
+  pub closable-fits : (h : ℕ) → h ≡ horner (held cs) 0 xs vs → h + getD sums k 0 < countLimit
+  closable-fits h e = omega (arith, b .small k found, horner-less (valued-below (b .valued)))

@@ -1,0 +1,358 @@
+-- The arrays as stacks, while the entries of a tree are taken in turn. Assumes nothing.
+use Prim.Native.Nat.{ℕ, zero, suc, _+_, _*_, _-_, _<_, _≤_}
+use mathlib.Core.Path.{_≡_, refl, sym, ap, _∙_}
+use mathlib.Core.Bool.{true, false, _&&_, _||_}
+use mathlib.Core.List.{List, [], _∷_, _++_, map}
+use native.Mathlib.Omega.{arith}
+use native.Mathlib.Numerals.{add-one}
+use native.Mathlib.Nat.{zero-sub, pos-of-ne-zero}
+use lib.ListN.{length, getD, set, take, drop, length-set, length-drop, drop-of-length-le}
+use lib.Seq.{take-nil, take-all, getD-set-same, getD-set-other, take-suc-set, length-take-le, take-take, getD-take, getD-drop}
+use lib.Dec.{ltb, eqb}
+use borrow.Author.Count.{below-more}
+use borrow.Author.Tests.{eqb-false, ltb-false}
+use Rattle.model.specs.Answers.{Outcome, result, refused}
+use Rattle.model.specs.Table.{rowNumbered, rowIs}
+use Rattle.model.specs.Tree.{WellFormed}
+use Rattle.model.specs.Count.{product}
+use Rattle.model.specs.Value.{horner}
+use Rattle.model.specs.Check.{countLimit}
+use Rattle.model.specs.Entries.{openAfter, endsTooSoon}
+use Rattle.model.proofs.Choice.{or-false}
+use Rattle.model.proofs.Lists.{drop-next}
+use Rattle.model.proofs.Rows.{rowIs-true}
+use Rattle.model.proofs.Values.{horner-less}
+use Rattle.model.proofs.Entries.{well-formed, open-bound, tree-or-taken}
+use Rattle.chains.specs.declared.Found.{Found}
+use Rattle.chains.specs.declared.Found.the-variants.{At, Nothing}
+use Rattle.chains.proofs.First.{first-is}
+use Rattle.index.specs.Index.{rowFound}
+use Rattle.counts.specs.Chain.{target}
+use Rattle.counts.specs.States.{held}
+use Rattle.tree.specs.Reading.{fresh, stepOf}
+use Rattle.tree.specs.declared.Reading.{Reading}
+use Rattle.tree.specs.declared.Step.the-variants.{Opens, Closes, Refuses}
+use Rattle.tree.proofs.Laws.{Read, opens-by, closes-by, opened, shut, refused-here, begins as read-begins}
+use Rattle.rank.specs.declared.Node.{Node}
+use Rattle.rank.specs.declared.Node.the-variants.{Reaches, Stuck}
+use Rattle.rank.specs.Machine.{nodeBy, nodeOf, numbered, run, machine}
+use Rattle.rank.specs.Ready.{Valued, Closable, Summable, Ready}
+use Rattle.rank.proofs.Folding.{valued-below}
+
+-- ---- an array as a stack
+
+-- the first d elements, the last first
+unfoldable pub stackOf : ℕ → List ℕ → List ℕ
+stackOf zero xs = []
+stackOf (suc d) xs = getD xs d 0 ∷ stackOf d xs
+
+-- a store at or above d does not show
+stack-same : (d j : ℕ) (xs : List ℕ) (x : ℕ) → d ≤ j → stackOf d (set xs j x) ≡ stackOf d xs
+unfolding stackOf
+stack-same zero j xs x le = refl
+stack-same (suc d) j xs x le = rw (getD-set-other xs j d x 0 (omega arith), stack-same d j xs x (omega arith))
+
+push : (d : ℕ) (xs : List ℕ) (x : ℕ) → d < length xs → stackOf (suc d) (set xs d x) ≡ x ∷ stackOf d xs
+unfolding stackOf
+push d xs x lt = rw (getD-set-same xs d x 0, stack-same d d xs x (omega arith))
+
+pop : (d : ℕ) (xs : List ℕ) → stackOf (suc d) xs ≡ getD xs d 0 ∷ stackOf d xs
+unfolding stackOf
+pop d xs = refl
+
+no-stack : (xs : List ℕ) → stackOf 0 xs ≡ []
+unfolding stackOf
+no-stack xs = refl
+
+drop-take : (b n : ℕ) (l : List ℕ) → drop b (take n l) ≡ take (n - b) (drop b l)
+drop-take zero n l = let e : n - 0 ≡ n = omega arith in rw e
+drop-take (suc b) zero l = rw zero-sub
+drop-take (suc b) (suc n) [] = rw take-nil
+drop-take (suc b) (suc n) (x ∷ l) = let e : suc n - suc b ≡ n - b = omega arith in rw e (drop-take b n l)
+
+-- ---- one entry of the machine
+
+module _ (node : ℕ → List ℕ → List ℕ → Node) (end : ℕ → ℕ → ℕ → Outcome) (opens begins ws vs : List ℕ) (p : ℕ) where
+  pub run-open : (e : ℕ) (es : List ℕ) → eqb e 0 ≡ false → run node end opens begins ws vs p (e ∷ es) ≡ run node end (e ∷ opens) (length ws ∷ begins) ws vs (p + 1) es
+  unfolding run
+  run-open e es z = rw z
+
+  pub run-end : run node end opens begins ws vs p [] ≡ end (getD ws 0 0) (getD vs 0 0) (p - 1)
+  unfolding run
+  run-end = refl
+
+  module _ (s b e : ℕ) (es : List ℕ) (z : eqb e 0 ≡ true) where
+    pub run-close : (q v : ℕ) → node s (drop b ws) (drop b vs) ≡ Reaches q v
+        → run node end (s ∷ opens) (b ∷ begins) ws vs p (e ∷ es) ≡ run node end opens begins (take b ws ++ (q ∷ [])) (take b vs ++ (v ∷ [])) (p + 1) es
+    unfolding run
+    run-close q v h = rw (z, h)
+
+    pub run-stuck : node s (drop b ws) (drop b vs) ≡ Stuck → run node end (s ∷ opens) (b ∷ begins) ws vs p (e ∷ es) ≡ refused 14 p
+    unfolding run
+    run-stuck h = rw (z, h)
+
+-- ---- one entry of the reading
+
+pub step-opens : (s t : Reading) (e : ℕ) → stepOf s e ≡ Opens t → (eqb e 0 ≡ false) × (t .depth ≡ suc (s .depth))
+unfolding stepOf
+step-opens s t e p =
+    let h = opens-by (ltb 255 e || (eqb e 0 && eqb (s .depth) 0) || (s .begun && eqb (s .depth) 0)) (eqb e 0) _ _ t p in
+    (h .1, ap (λ (r : Reading). r .depth) (h .2) ∙ add-one (s .depth))
+
+pub step-closes : (s t : Reading) (e : ℕ) → stepOf s e ≡ Closes t → (eqb e 0 ≡ true) × (s .depth ≡ suc (t .depth))
+unfolding stepOf
+step-closes s t e p =
+    let h = closes-by (ltb 255 e || (eqb e 0 && eqb (s .depth) 0) || (s .begun && eqb (s .depth) 0)) (eqb e 0) _ _ t p in
+    let a = or-false (ltb 255 e || (eqb e 0 && eqb (s .depth) 0)) (s .begun && eqb (s .depth) 0) (h .0) in
+    let b : (eqb e 0 && eqb (s .depth) 0) ≡ false = or-false (ltb 255 e) (eqb e 0 && eqb (s .depth) 0) (a .0) .1 in
+    let n : eqb (s .depth) 0 ≡ false = rw (h .1) at b in
+    let d : t .depth ≡ s .depth - 1 = ap (λ (r : Reading). r .depth) (h .2) in
+    (h .1, omega (arith, pos-of-ne-zero (eqb-false (s .depth) 0 n)))
+
+-- ---- a closed node
+
+-- what a node found by its row is
+by-row : (f : Found) (rows cs sums xs vs : List ℕ) (q v : ℕ) → nodeBy f rows cs sums xs vs ≡ Reaches q v
+    → (k : ℕ) × (f ≡ At k) × (q ≡ target rows k) × (v ≡ horner (held cs) 0 xs vs + getD sums k 0)
+by-row (At k) rows cs sums xs vs q v e = (k, refl, cc, cc)
+by-row Nothing rows cs sums xs vs q v e = let z : _≡_ {A = ℕ} 0 1 = cc in absurd (omega arith)
+
+module _ {rows accepting offsets heads next cs sums : List ℕ} {n : ℕ} (ready : Ready rows accepting offsets heads next cs sums n) (s : ℕ) (xs : List ℕ) where
+  -- the row that is found counts, with the rows before it, at most what its target counts
+  found-fits : (k : ℕ) → rowFound rows n s xs ≡ At k → (k < n) × (product (map (held cs) xs) + getD sums k 0 ≤ held cs (target rows k))
+  found-fits k e =
+      let f = first-is (λ k. rowIs (rowNumbered rows k) s xs) n k e in
+      let a : rowNumbered rows k .args ≡ xs = rowIs-true (rowNumbered rows k) s xs (f .1) .1 in
+      (f .0, rw a at (ready .shares k (f .0)))
+
+  closes-within : (vs : List ℕ) → Valued cs xs vs → Closable rows n cs sums s xs vs
+  closes-within vs v = record { valued = v; small = λ k e. let f = found-fits k e in omega (arith, f .1, ready .small k (f .0)) }
+
+  -- the state has a place, and the value is below its count
+  node-below : (vs : List ℕ) → Valued cs xs vs → (q v : ℕ) → nodeOf rows n cs sums s xs vs ≡ Reaches q v → (q < 256) × (v < held cs q) × (v ≤ countLimit)
+  unfolding nodeOf
+  node-below vs b q v e =
+      let r = by-row (rowFound rows n s xs) rows cs sums xs vs q v e in
+      let k = r .0 in
+      let f = found-fits k (r .1) in
+      let less = horner-less (valued-below b) in
+      let q-is : q ≡ target rows k = r .2 in
+      let v-is : v ≡ horner (held cs) 0 xs vs + getD sums k 0 = r .3 in
+      let small : v < held cs (target rows k) = omega (arith, f .1) in
+      (rw q-is (ready .targets k (f .0)), rw q-is small, omega (arith, ready .small k (f .0)))
+
+-- ---- the entries in turn
+
+-- i entries are read: the open nodes and what waits stand in the arrays, and the machine goes on from there
+pub record Running (rows accepting cs sums tree : List ℕ) (n : ℕ) (opens begins waiting values : List ℕ) (w : ℕ) (s : Reading) (i : ℕ) : Type 0 where
+  pub reads : Read tree s i
+  pub opens-long : length opens ≡ 2048
+  pub begins-long : length begins ≡ 2048
+  pub waiting-long : length waiting ≡ 2048
+  pub values-long : length values ≡ 2048
+  -- a state that waits has used two entries, an open node one
+  pub room : 2 * w + s .depth ≤ i
+  pub deep : s .depth ≤ 2048
+  pub some : 0 < i → 0 < s .depth + w
+  pub under : (j : ℕ) → j < s .depth → getD begins j 0 ≤ w
+  pub sorted : (j k : ℕ) → j ≤ k → k < s .depth → getD begins j 0 ≤ getD begins k 0
+  pub placed : (j : ℕ) → j < w → getD waiting j 0 < 256
+  pub below : (j : ℕ) → j < w → getD values j 0 < held cs (getD waiting j 0)
+  pub small : (j : ℕ) → j < w → getD values j 0 ≤ countLimit
+  pub same : run (nodeOf rows n cs sums) (numbered accepting cs) (stackOf (s .depth) opens) (stackOf (s .depth) begins) (take w waiting) (take w values) i (drop i tree)
+      ≡ machine rows n accepting cs sums tree
+
+pub running-begins : (rows accepting cs sums tree : List ℕ) (n : ℕ) (opens begins waiting values : List ℕ) (s : Reading) → length tree ≤ 4096 → s ≡ fresh
+    → length opens ≡ 2048 → length begins ≡ 2048 → length waiting ≡ 2048 → length values ≡ 2048
+    → Running rows accepting cs sums tree n opens begins waiting values 0 s 0
+running-begins rows accepting cs sums tree n opens begins waiting values s few e lo lb lw lv =
+    let d : s .depth ≡ 0 = ap (λ (r : Reading). r .depth) e in
+    record {
+      reads = read-begins tree s few e;
+      opens-long = lo;
+      begins-long = lb;
+      waiting-long = lw;
+      values-long = lv;
+      room = omega arith;
+      deep = omega arith;
+      some = λ l. absurd (omega arith);
+      under = λ j l. absurd (omega arith);
+      sorted = λ j k le l. absurd (omega arith);
+      placed = λ j l. absurd (omega arith);
+      below = λ j l. absurd (omega arith);
+      small = λ j l. absurd (omega arith);
+      same = rw (d, no-stack opens, no-stack begins);
+    }
+
+module _ {rows accepting cs sums tree : List ℕ} {n : ℕ} {opens begins waiting values : List ℕ} {w : ℕ} {s : Reading} {i : ℕ}
+    (r : Running rows accepting cs sums tree n opens begins waiting values w s i) where
+  pub few-wait : w ≤ 2048
+  few-wait = omega (arith, r .room, r .reads .within, r .reads .few)
+
+  module _ (l : i < length tree) where
+    -- the entry at hand, and the entries after it
+    here : run (nodeOf rows n cs sums) (numbered accepting cs) (stackOf (s .depth) opens) (stackOf (s .depth) begins) (take w waiting) (take w values) i (getD tree i 0 ∷ drop (i + 1) tree)
+        ≡ machine rows n accepting cs sums tree
+    here = rw (drop-next tree i l) at (r .same)
+
+    -- the entry opens a node
+    module _ (t : Reading) (e : stepOf s (getD tree i 0) ≡ Opens t) (well : WellFormed tree) where
+      pub open-room : (t .depth - 1 < 2048) × (1 ≤ t .depth)
+      open-room =
+          let x = opened (r .reads) l t e in
+          let b = open-bound tree well (i + 1) (x .within) in
+          (omega (arith, x .depth-is, x .few, step-opens s t (getD tree i 0) e .1), omega (arith, step-opens s t (getD tree i 0) e .1))
+
+      open-same : (d : ℕ) → d ≡ s .depth → d < 2048
+          → run (nodeOf rows n cs sums) (numbered accepting cs) (stackOf (suc d) (set opens d (getD tree i 0))) (stackOf (suc d) (set begins d w)) (take w waiting) (take w values) (i + 1) (drop (i + 1) tree)
+          ≡ machine rows n accepting cs sums tree
+      open-same d q m =
+          let size : length (take w waiting) ≡ w = length-take-le w waiting (omega (arith, few-wait, r .waiting-long)) in
+          let h = sym (run-open (nodeOf rows n cs sums) (numbered accepting cs) (stackOf (s .depth) opens) (stackOf (s .depth) begins) (take w waiting) (take w values) i (getD tree i 0) (drop (i + 1) tree)
+          (step-opens s t (getD tree i 0) e .0)) ∙ here in
+          rw (push d opens (getD tree i 0) (omega (arith, r .opens-long)), push d begins w (omega (arith, r .begins-long)), q) (rw size at h)
+
+      pub node-opens : Running rows accepting cs sums tree n (set opens (t .depth - 1) (getD tree i 0)) (set begins (t .depth - 1) w) waiting values w t (i + 1)
+      node-opens =
+          let up : t .depth ≡ suc (s .depth) = step-opens s t (getD tree i 0) e .1 in
+          let q : t .depth - 1 ≡ s .depth = omega arith in
+          let m : t .depth - 1 < 2048 = open-room .0 in
+          let top : t .depth ≡ t .depth - 1 + 1 = omega arith in
+          let there : getD (set begins (t .depth - 1) w) (t .depth - 1) 0 ≡ w = getD-set-same begins (t .depth - 1) w 0 (omega (arith, r .begins-long)) in
+          let other : (j : ℕ) → j < t .depth - 1 → getD (set begins (t .depth - 1) w) j 0 ≡ getD begins j 0 = λ j lt. getD-set-other begins (t .depth - 1) j w 0 (omega arith) in
+          let under′ : (j : ℕ) → j < t .depth - 1 + 1 → getD (set begins (t .depth - 1) w) j 0 ≤ w
+          = below-more (λ (j : ℕ). getD (set begins (t .depth - 1) w) j 0 ≤ w) (t .depth - 1) (λ j lt. rw (other j lt) (r .under j (omega arith))) (rw there (omega arith)) in
+          record {
+            reads = opened (r .reads) l t e;
+            opens-long = length-set opens (t .depth - 1) (getD tree i 0) ∙ r .opens-long;
+            begins-long = length-set begins (t .depth - 1) w ∙ r .begins-long;
+            waiting-long = r .waiting-long;
+            values-long = r .values-long;
+            room = omega (arith, r .room);
+            deep = omega arith;
+            some = λ p. omega arith;
+            under = λ j lt. under′ j (omega arith);
+            sorted = λ j k le lt.
+                below-more (λ (m : ℕ). j ≤ m → getD (set begins (t .depth - 1) w) j 0 ≤ getD (set begins (t .depth - 1) w) m 0) (t .depth - 1)
+                (λ m lm le2. rw (other j (omega arith), other m lm) (r .sorted j m le2 (omega arith)))
+                (λ le2. rw there (under′ j (omega arith))) k (omega arith) le;
+            placed = r .placed;
+            below = r .below;
+            small = r .small;
+            same =
+                ap (λ (k : ℕ). run (nodeOf rows n cs sums) (numbered accepting cs) (stackOf k (set opens (t .depth - 1) (getD tree i 0))) (stackOf k (set begins (t .depth - 1) w)) (take w waiting) (take w values) (i + 1) (drop (i + 1) tree))
+                (top ∙ add-one (t .depth - 1))
+                ∙ open-same (t .depth - 1) q m;
+          }
+
+    -- the entry closes a node, whose children began with the b-th that waits
+    module _ (t : Reading) (e : stepOf s (getD tree i 0) ≡ Closes t) (b : ℕ) (at : b ≡ getD begins (t .depth) 0) where
+      deeper : s .depth ≡ suc (t .depth)
+      deeper = step-closes s t (getD tree i 0) e .1
+
+      pub close-depth : t .depth < 2048
+      close-depth = omega (arith, deeper, r .deep)
+
+      pub close-under : b ≤ w
+      close-under = rw at (r .under (t .depth) (omega (arith, deeper)))
+
+      pub close-room : b < 2048
+      close-room = omega (arith, close-under, deeper, r .room, r .reads .within, r .reads .few)
+
+      -- the children's states and values
+      children : Valued cs (take (w - b) (drop b waiting)) (take (w - b) (drop b values))
+      children =
+          let len-w : length (take (w - b) (drop b waiting)) ≡ w - b = length-take-le (w - b) (drop b waiting) (rw (length-drop b waiting) (omega (arith, few-wait, close-under, r .waiting-long))) in
+          let len-v : length (take (w - b) (drop b values)) ≡ w - b = length-take-le (w - b) (drop b values) (rw (length-drop b values) (omega (arith, few-wait, close-under, r .values-long))) in
+          let at-w : (k : ℕ) → k < w - b → getD (take (w - b) (drop b waiting)) k 0 ≡ getD waiting (b + k) 0 = λ k lt. getD-take (w - b) (drop b waiting) k 0 lt ∙ getD-drop b waiting k 0 in
+          let at-v : (k : ℕ) → k < w - b → getD (take (w - b) (drop b values)) k 0 ≡ getD values (b + k) 0 = λ k lt. getD-take (w - b) (drop b values) k 0 lt ∙ getD-drop b values k 0 in
+          record {
+            many = len-v ∙ sym len-w;
+            placed = λ k lt. let lk : k < w - b = rw len-w at lt in rw (at-w k lk) (r .placed (b + k) (omega arith));
+            below = λ k lt. let lk : k < w - b = rw len-w at lt in rw (at-w k lk, at-v k lk) (r .below (b + k) (omega arith));
+          }
+
+      pub close-fits : {offsets heads next : List ℕ} → Ready rows accepting offsets heads next cs sums n
+          → Closable rows n cs sums (getD opens (t .depth) 0) (take (w - b) (drop b waiting)) (take (w - b) (drop b values))
+      close-fits ready = closes-within ready (getD opens (t .depth) 0) (take (w - b) (drop b waiting)) (take (w - b) (drop b values)) children
+
+      -- the machine at the bar
+      at-bar : run (nodeOf rows n cs sums) (numbered accepting cs) (getD opens (t .depth) 0 ∷ stackOf (t .depth) opens) (b ∷ stackOf (t .depth) begins) (take w waiting) (take w values) i (getD tree i 0 ∷ drop (i + 1) tree)
+          ≡ machine rows n accepting cs sums tree
+      at-bar = rw (at, ← (pop (t .depth) opens), ← (pop (t .depth) begins), ← deeper) here
+
+      parts : (o : Node) → nodeOf rows n cs sums (getD opens (t .depth) 0) (take (w - b) (drop b waiting)) (take (w - b) (drop b values)) ≡ o
+          → nodeOf rows n cs sums (getD opens (t .depth) 0) (drop b (take w waiting)) (drop b (take w values)) ≡ o
+      parts o h = rw (drop-take b w waiting, drop-take b w values) h
+
+      pub node-sticks : nodeOf rows n cs sums (getD opens (t .depth) 0) (take (w - b) (drop b waiting)) (take (w - b) (drop b values)) ≡ Stuck
+          → refused 14 i ≡ machine rows n accepting cs sums tree
+      node-sticks h =
+          sym (run-stuck (nodeOf rows n cs sums) (numbered accepting cs) (stackOf (t .depth) opens) (stackOf (t .depth) begins) (take w waiting) (take w values) i
+          (getD opens (t .depth) 0) b (getD tree i 0) (drop (i + 1) tree) (step-closes s t (getD tree i 0) e .0) (parts Stuck h))
+          ∙ at-bar
+
+      -- the front of an array after the store at b
+      front : (xs : List ℕ) (x : ℕ) → length xs ≡ 2048 → take (b + 1) (set xs b x) ≡ take b (take w xs) ++ (x ∷ [])
+      front xs x full = rw (add-one b, take-suc-set xs b x (omega (arith, close-room)), take-take b w xs close-under)
+
+      pub node-closes : {offsets heads next : List ℕ} → Ready rows accepting offsets heads next cs sums n → (q v : ℕ)
+          → nodeOf rows n cs sums (getD opens (t .depth) 0) (take (w - b) (drop b waiting)) (take (w - b) (drop b values)) ≡ Reaches q v
+          → Running rows accepting cs sums tree n opens begins (set waiting b q) (set values b v) (b + 1) t (i + 1)
+      node-closes ready q v h =
+          let x = node-below ready (getD opens (t .depth) 0) (take (w - b) (drop b waiting)) (take (w - b) (drop b values)) children q v h in
+          let here-w : getD (set waiting b q) b 0 ≡ q = getD-set-same waiting b q 0 (omega (arith, close-room, r .waiting-long)) in
+          let here-v : getD (set values b v) b 0 ≡ v = getD-set-same values b v 0 (omega (arith, close-room, r .values-long)) in
+          let other-w : (j : ℕ) → j < b → getD (set waiting b q) j 0 ≡ getD waiting j 0 = λ j lt. getD-set-other waiting b j q 0 (omega arith) in
+          let other-v : (j : ℕ) → j < b → getD (set values b v) j 0 ≡ getD values j 0 = λ j lt. getD-set-other values b j v 0 (omega arith) in
+          record {
+            reads = shut (r .reads) l t e;
+            opens-long = r .opens-long;
+            begins-long = r .begins-long;
+            waiting-long = length-set waiting b q ∙ r .waiting-long;
+            values-long = length-set values b v ∙ r .values-long;
+            room = omega (arith, r .room, close-under, deeper);
+            deep = omega (arith, r .deep, deeper);
+            some = λ p. omega arith;
+            under = λ j lt. omega (arith, at, r .sorted j (t .depth) (omega arith) (omega (arith, deeper)));
+            sorted = λ j k le lt. r .sorted j k le (omega (arith, deeper));
+            placed = below-more (λ (j : ℕ). getD (set waiting b q) j 0 < 256) b (λ j lt. rw (other-w j lt) (r .placed j (omega (arith, close-under)))) (rw here-w (x .0));
+            below = below-more (λ (j : ℕ). getD (set values b v) j 0 < held cs (getD (set waiting b q) j 0)) b
+                (λ j lt. rw (other-w j lt, other-v j lt) (r .below j (omega (arith, close-under)))) (rw (here-w, here-v) (x .1));
+            small = below-more (λ (j : ℕ). getD (set values b v) j 0 ≤ countLimit) b (λ j lt. rw (other-v j lt) (r .small j (omega (arith, close-under)))) (rw here-v (x .2));
+            same =
+                rw (front waiting q (r .waiting-long), front values v (r .values-long))
+                (sym (run-close (nodeOf rows n cs sums) (numbered accepting cs) (stackOf (t .depth) opens) (stackOf (t .depth) begins) (take w waiting) (take w values) i
+                (getD opens (t .depth) 0) b (getD tree i 0) (drop (i + 1) tree) (step-closes s t (getD tree i 0) e .0) q v (parts (Reaches q v) h))
+                ∙ at-bar);
+          }
+
+    -- no entry of a tree is refused
+    pub not-refused : stepOf s (getD tree i 0) ≡ Refuses → WellFormed tree → refused 13 i ≡ machine rows n accepting cs sums tree
+    not-refused e well =
+        let z : refused 13 i ≡ result 0 = refused-here (r .reads) l e (result 0) ∙ tree-or-taken tree well (r .reads .few) (result 0) in
+        let y : _≡_ {A = ℕ} 0 1 = cc in
+        absurd (omega arith)
+
+  -- all entries are read: the root's state waits, alone
+  module _ (g : length tree ≤ i) (well : WellFormed tree) where
+    ends : (eqb (length tree) 0 ≡ false) × (ltb 0 (openAfter 0 tree) ≡ false)
+    unfolding endsTooSoon
+    ends = or-false (eqb (length tree) 0) (ltb 0 (openAfter 0 tree)) (well-formed tree well .enough)
+
+    pub some-read : 1 ≤ i
+    some-read = omega (arith, g, pos-of-ne-zero (eqb-false (length tree) 0 (ends .0)))
+
+    one-waits : 0 < w
+    one-waits =
+        let d : s .depth ≡ openAfter 0 tree = r .reads .depth-is ∙ ap (openAfter 0) (take-all i tree g) in
+        omega (arith, r .some some-read, ltb-false 0 (openAfter 0 tree) (ends .1))
+
+    pub end-sums : {offsets heads next : List ℕ} → Ready rows accepting offsets heads next cs sums n → Summable accepting cs (getD values 0 0)
+    end-sums ready = record { value = r .small 0 one-waits; placed = ready .placed; small = ready .total }
+
+    pub tree-ends : numbered accepting cs (getD waiting 0 0) (getD values 0 0) (i - 1) ≡ machine rows n accepting cs sums tree
+    tree-ends =
+        let h = rw (drop-of-length-le tree {i = i} g) at (r .same) in
+        rw (getD-take w waiting 0 0 one-waits, getD-take w values 0 0 one-waits) at
+        (sym (run-end (nodeOf rows n cs sums) (numbered accepting cs) (stackOf (s .depth) opens) (stackOf (s .depth) begins) (take w waiting) (take w values) i) ∙ h)

@@ -1,0 +1,193 @@
+use native.Mathlib.Omega.{arith}
+use Prim.Native.Nat.{ℕ, _-_, _<_, _≤_}
+use mathlib.Core.Path.{_≡_, refl, sym, _∙_}
+use lib.ListN.{length, getD, length-replicate}
+use Rattle.tree.specs.Reading.{stepOf}
+use Rattle.tree.specs.declared.Step.the-variants.{Opens, Closes}
+use Rattle.rank.proofs.Running.{Running, running-begins, few-wait, open-room, node-opens, close-depth, close-under, close-room, close-fits, node-sticks, node-closes, not-refused, some-read, end-sums, tree-ends}
+use Rattle.rank.proofs.number_tree.Statement.{statement}
+use borrow.Author.Needs.{needs}
+use Rattle.rank.proofs.number_tree.Tie as tie
+
+abbrev Inv-loop : tie.InvT-loop
+Inv-loop rows accepting tree offsets heads next counts sums n opens₀ begins₀ waiting₀ values₀ w₀ s₀ i₀ opens begins waiting values w s i = Running rows accepting counts sums tree n opens begins waiting values w s i
+
+abbrev μ-loop : tie.MeasureT-loop
+μ-loop rows accepting tree offsets heads next counts sums n opens₀ begins₀ waiting₀ values₀ w₀ s₀ i₀ opens begins waiting values w s i = length tree - i
+
+-- the entry opens a node, or closes one
+opens-step : (c : tie.After-known-told Inv-loop μ-loop) → stepOf (c .before .before .before .before .before .before .loop .s) (getD (c .before .before .before .before .before .before .before .before .before .before .before .args .tree .now) (c .before .before .before .before .before .before .loop .i) 0) ≡ Opens (c .before .t .given .0 .0)
+opens-step c = sym (c .before .before .before .entry .ensures) ∙ c .before .t .given .1
+
+closes-step : (c : tie.After-known-told2 Inv-loop μ-loop) → stepOf (c .before .before .before .before .before .before .loop .s) (getD (c .before .before .before .before .before .before .before .before .before .before .before .args .tree .now) (c .before .before .before .before .before .before .loop .i) 0) ≡ Closes (c .before .t2 .given .0 .0)
+closes-step c = sym (c .before .before .before .entry .ensures) ∙ c .before .t2 .given .1
+
+-- the arrays have room for it
+opens-room : (c : tie.After-known-told Inv-loop μ-loop) → (c .before .t .given .0 .0 .depth - 1 < 2048) × (1 ≤ c .before .t .given .0 .0 .depth)
+opens-room c = open-room (c .before .before .before .before .before .before .loop .inv) (c .before .before .before .before .before .loop-test .taken) _ (opens-step c) (c .before .before .before .before .before .before .before .before .before .before .before .pre .1 .0)
+
+closes-room : (c : tie.After-known-told2 Inv-loop μ-loop) → c .before .t2 .given .0 .0 .depth < 2048
+closes-room c = close-depth (c .before .before .before .before .before .before .loop .inv) (c .before .before .before .before .before .loop-test .taken) _ (closes-step c) _ refl
+
+room : (c : tie.After-wide Inv-loop μ-loop) → (c .wide .result ≤ c .before .before .before .before .before .before .before .loop .w) × (c .wide .result < 2048) × (c .before .before .before .before .before .before .before .loop .w ≤ 2048)
+room c = (
+  close-under (c .before .before .before .before .before .before .before .loop .inv) (c .before .before .before .before .before .before .loop-test .taken) _ (closes-step (c .before)) _ (c .wide .ensures),
+  close-room (c .before .before .before .before .before .before .before .loop .inv) (c .before .before .before .before .before .before .loop-test .taken) _ (closes-step (c .before)) _ (c .wide .ensures),
+  few-wait (c .before .before .before .before .before .before .before .loop .inv),
+)
+
+loop-holds : tie.Need-loop-holds Inv-loop μ-loop
+loop-holds c = running-begins _ _ _ _ _ _ _ _ _ _ _ (c .before .before .before .before .pre .1 .1) (c .new .ensures) (length-replicate {A = ℕ} 2048 0) (length-replicate {A = ℕ} 2048 0) (length-replicate {A = ℕ} 2048 0) (length-replicate {A = ℕ} 2048 0)
+
+entry-requires : tie.Need-entry-requires Inv-loop μ-loop
+entry-requires c κs = omega (arith, c .before .before .loop .inv .deep)
+
+sub-d : tie.Need-sub-d Inv-loop μ-loop
+sub-d c = opens-room (c .before) .1
+
+mul-opens-2 : tie.Need-mul-opens-2 Inv-loop μ-loop
+mul-opens-2 c = omega (arith, opens-room (c .before .before))
+
+array-write-opens : tie.Need-array-write-opens Inv-loop μ-loop
+array-write-opens c = opens-room (c .before .before) .0
+
+cast-begins : tie.Need-cast-begins Inv-loop μ-loop
+cast-begins c = omega (arith, few-wait (c .before .before .before .before .before .before .before .before .loop .inv))
+
+mul-begins : tie.Need-mul-begins Inv-loop μ-loop
+mul-begins c = omega (arith, opens-room (c .before .before))
+
+array-write-begins : tie.Need-array-write-begins Inv-loop μ-loop
+array-write-begins c = opens-room (c .before .before) .0
+
+loop-again : tie.Need-loop-again Inv-loop μ-loop
+loop-again c = node-opens (c .before .before .before .before .before .before .before .before .loop .inv) (c .before .before .before .before .before .before .before .loop-test .taken) _ (opens-step (c .before .before)) (c .before .before .before .before .before .before .before .before .before .before .before .before .before .pre .1 .0)
+
+mul-wide : tie.Need-mul-wide Inv-loop μ-loop
+mul-wide c = omega (arith, closes-room c)
+
+array-read-wide : tie.Need-array-read-wide Inv-loop μ-loop
+array-read-wide c = closes-room c
+
+mul-close : tie.Need-mul-close Inv-loop μ-loop
+mul-close c = omega (arith, closes-room (c .before))
+
+array-read-close : tie.Need-array-read-close Inv-loop μ-loop
+array-read-close c = closes-room (c .before)
+
+mul-close-2 : tie.Need-mul-close-2 Inv-loop μ-loop
+mul-close-2 c = omega (arith, room c)
+
+sub-close : tie.Need-sub-close Inv-loop μ-loop
+sub-close c = room c .0
+
+part-close-start : tie.Need-part-close-start Inv-loop μ-loop
+part-close-start c = omega (arith, room (c .before))
+
+part-close-end : tie.Need-part-close-end Inv-loop μ-loop
+part-close-end c = omega (arith, room (c .before), c .before .before .before .before .before .before .before .before .loop .inv .waiting-long)
+
+mul-close-3 : tie.Need-mul-close-3 Inv-loop μ-loop
+mul-close-3 c = omega (arith, room (c .before .before))
+
+sub-close-2 : tie.Need-sub-close-2 Inv-loop μ-loop
+sub-close-2 c = room (c .before .before) .0
+
+part-close-start-2 : tie.Need-part-close-start-2 Inv-loop μ-loop
+part-close-start-2 c = omega (arith, room (c .before .before .before))
+
+part-close-end-2 : tie.Need-part-close-end-2 Inv-loop μ-loop
+part-close-end-2 c = omega (arith, room (c .before .before .before), c .before .before .before .before .before .before .before .before .before .before .loop .inv .values-long)
+
+close-requires : tie.Need-close-requires Inv-loop μ-loop
+close-requires c κs = (c .before .before .before .before .before .before .before .before .before .before .before .before .before .before .before .before .pre .0 .laid, (c .before .before .before .before .before .before .before .before .before .before .before .before .before .before .before .before .pre .0 .index, close-fits (c .before .before .before .before .before .before .before .before .before .before .before .loop .inv) (c .before .before .before .before .before .before .before .before .before .before .loop-test .taken) _ (closes-step (c .before .before .before .before .before)) _ (c .before .before .before .before .wide .ensures) (c .before .before .before .before .before .before .before .before .before .before .before .before .before .before .before .before .pre .0)))
+
+mul-waiting : tie.Need-mul-waiting Inv-loop μ-loop
+mul-waiting c = omega (arith, room (c .before .before .before .before .before .before .before .before))
+
+array-write-waiting : tie.Need-array-write-waiting Inv-loop μ-loop
+array-write-waiting c = room (c .before .before .before .before .before .before .before .before) .1
+
+mul-values : tie.Need-mul-values Inv-loop μ-loop
+mul-values c = omega (arith, room (c .before .before .before .before .before .before .before .before))
+
+array-write-values : tie.Need-array-write-values Inv-loop μ-loop
+array-write-values c = room (c .before .before .before .before .before .before .before .before) .1
+
+add-w : tie.Need-add-w Inv-loop μ-loop
+add-w c = omega (arith, room (c .before .before .before .before .before .before .before .before))
+
+loop-again-2 : tie.Need-loop-again-2 Inv-loop μ-loop
+loop-again-2 c = node-closes (c .before .before .before .before .before .before .before .before .before .before .before .before .before .before .before .loop .inv) (c .before .before .before .before .before .before .before .before .before .before .before .before .before .before .loop-test .taken) _ (closes-step (c .before .before .before .before .before .before .before .before .before)) _ (c .before .before .before .before .before .before .before .before .wide .ensures) (c .before .before .before .before .before .before .before .before .before .before .before .before .before .before .before .before .before .before .before .before .pre .0) _ _ (sym (c .before .before .before .close .ensures) ∙ c .before .q .given .1)
+
+returns : tie.Need-returns Inv-loop μ-loop
+returns c = node-sticks (c .before .before .before .before .before .before .before .before .before .before .before .before .before .before .loop .inv) (c .before .before .before .before .before .before .before .before .before .before .before .before .before .loop-test .taken) _ (closes-step (c .before .before .before .before .before .before .before .before)) _ (c .before .before .before .before .before .before .before .wide .ensures) (sym (c .before .before .close .ensures) ∙ c .enum-told .given .1)
+
+returns-2 : tie.Need-returns-2 Inv-loop μ-loop
+returns-2 c = not-refused (c .before .before .before .before .before .loop .inv) (c .before .before .before .before .loop-test .taken) (sym (c .before .before .entry .ensures) ∙ c .enum-told2 .given .1) (c .before .before .before .before .before .before .before .before .before .before .pre .1 .0)
+
+sub-number-in : tie.Need-sub-number-in Inv-loop μ-loop
+sub-number-in c = some-read (c .before .loop .inv) (c .loop-test .left) (c .before .before .before .before .before .before .pre .1 .0)
+
+number-in-requires : tie.Need-number-in-requires Inv-loop μ-loop
+number-in-requires c κs = end-sums (c .before .loop .inv) (c .loop-test .left) (c .before .before .before .before .before .before .pre .1 .0) (c .before .before .before .before .before .before .pre .0)
+
+returns-3 : tie.Need-returns-3 Inv-loop μ-loop
+returns-3 c = c .number-in .ensures ∙ tree-ends (c .before .before .loop .inv) (c .before .loop-test .left) (c .before .before .before .before .before .before .before .pre .1 .0)
+
+pub number-tree-spec : {M : Type 1} → statement M
+number-tree-spec =
+    tie.close
+    (tie.spec
+    Inv-loop
+    μ-loop
+    (λ c κs. search needs)
+    loop-holds
+    (λ c. search needs)
+    (λ c. search needs)
+    entry-requires
+    (λ c. search needs)
+    sub-d
+    (λ c. search needs)
+    (λ c. search needs)
+    mul-opens-2
+    array-write-opens
+    cast-begins
+    mul-begins
+    array-write-begins
+    (λ c. search needs)
+    (λ c. search needs)
+    loop-again
+    (λ c. search needs)
+    mul-wide
+    array-read-wide
+    (λ c κs. search needs)
+    mul-close
+    array-read-close
+    mul-close-2
+    sub-close
+    part-close-start
+    part-close-end
+    mul-close-3
+    sub-close-2
+    part-close-start-2
+    part-close-end-2
+    close-requires
+    (λ c. search needs)
+    mul-waiting
+    array-write-waiting
+    mul-values
+    array-write-values
+    add-w
+    (λ c. search needs)
+    (λ c. search needs)
+    loop-again-2
+    (λ c. search needs)
+    returns
+    (λ c. search needs)
+    returns-2
+    (λ c. search needs)
+    (λ c. search needs)
+    sub-number-in
+    number-in-requires
+    returns-3)

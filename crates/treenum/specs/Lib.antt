@@ -1,0 +1,2 @@
+-- What the parts of the program hand on.
+pub mod Lines

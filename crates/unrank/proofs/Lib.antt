@@ -1,0 +1,8 @@
+pub mod Ready
+pub mod Rows
+pub mod Trees
+pub mod Children
+pub mod Writing
+pub mod Accepting
+pub mod Agree
+pub mod Outcomes

@@ -1,0 +1,43 @@
+use Prim.Native.Nat.{ℕ}
+use lib.ListN.{length-replicate, getD-replicate}
+use Rattle.unrank.proofs.Ready.{ready}
+use Rattle.unrank.proofs.Outcomes.{write-refused, write-above, write-below}
+use borrow.Author.Needs.{needs}
+use Rattle.unrank.proofs.write.Statement.{statement}
+use Rattle.unrank.proofs.write.Tie as tie
+
+check-into-requires : tie.Need-check-into-requires
+check-into-requires c κs = record {
+  offsets-long = length-replicate {A = ℕ} 1024 0;
+  clear = record { heads-long = length-replicate {A = ℕ} 2048 0; next-long = length-replicate {A = ℕ} 1024 0; none = λ b lt. getD-replicate {A = ℕ} 2048 b 0 0 lt };
+  unchained = record { first-long = length-replicate {A = ℕ} 256 0; after-long = length-replicate {A = ℕ} 1024 0; none = λ q lt. getD-replicate {A = ℕ} 256 q 0 0 lt };
+  counts-long = length-replicate {A = ℕ} 256 0;
+  longest-long = length-replicate {A = ℕ} 256 0;
+  sums-long = length-replicate {A = ℕ} 1024 0;
+}
+
+returns : tie.Need-returns
+returns c = write-above (c .before .before .before .before .before .check-into .ensures) _ _ _ _ (c .before .before .before .total .given .1) _ (c .before .if1 .taken) (c .refusal .ensures)
+
+write-number-requires : tie.Need-write-number-requires
+write-number-requires c κs = record { states = c .before .before .before .before .before .before .before .before .before .before .before .before .before .before .before .before .before .before .before .before .before .before .args .states; total = c .before .before .before .before .before .before .before .before .total .given .0 .0; ready = ready (c .before .before .before .before .before .before .before .before .before .before .check-into .ensures) _ _ (c .before .before .before .before .before .before .before .before .total .given .1); less = c .before .before .before .before .before .before .if1 .left }
+
+returns-2 : tie.Need-returns-2
+returns-2 c = write-below (c .before .before .before .before .before .before .before .before .before .before .before .before .before .check-into .ensures) _ _ _ _ (c .before .before .before .before .before .before .before .before .before .before .before .total .given .1) _ _ (c .before .before .before .before .before .before .before .before .before .if1 .left) (c .before .before .write-number .ensures)
+
+returns-3 : tie.Need-returns-3
+returns-3 c = write-refused (c .before .before .before .check-into .ensures) _ _ _ (c .before .r .given .1)
+
+pub write-spec : {M : Type 1} → statement M
+write-spec =
+    tie.close
+    (tie.spec
+    check-into-requires
+    (λ c. search needs)
+    (λ c κs. search needs)
+    returns
+    write-number-requires
+    (λ c. search needs)
+    (λ c. search needs)
+    returns-2
+    returns-3)

@@ -1,0 +1,456 @@
+"""Cases of numbering a tree and of writing the tree of a number, for make_cases.py.
+
+A case is the operation's number, the table (states, rows, accepting list), and the tree; or, to write, the number and
+the lent list. edges() gives cases with their answers, written down by hand; enumerated(draw, count) gives all trees and
+numbers of so many small tables, with answers from the trees listed one by one; drawn(draw, count) gives cases from so
+many larger tables.
+"""
+
+from table_cases import LIMIT, PAPER, Table, any_sound, edges as table_edges, flat, many_rows, sound
+from term_cases import NO_TREES, edited_tree, room, some_room
+from treenum_reference import Counts, Row, all_trees, check, list_of, refused, refused_place, trees_in_order, whole_rows, write
+
+NUMBER, WRITE = 2, 3
+
+
+# The edges: a case, its answer, and what the lent list then holds: None where it is the same, or there is none
+
+def node(symbol, *children):
+    return [symbol, *(entry for child in children for entry in child), 0]
+
+
+def a(*children):
+    return node(1, *children)
+
+
+def b(*children):
+    return node(2, *children)
+
+
+def number(table, tree, answer):
+    return (NUMBER, *table, tree), answer, None
+
+
+def written(table, k, tree):
+    """The tree of number k, into a list that is just long enough."""
+    return (WRITE, *table, k, room(len(tree))), f'result {len(tree)}', tree
+
+
+def both(table, k, tree):
+    """Number k is that of the tree, there and back; also into lists that are short and longer."""
+    n = len(tree)
+    yield number(table, tree, f'result {k}')
+    yield written(table, k, tree)
+    for count in (0, n - 1):
+        yield (WRITE, *table, k, room(count)), f'refused 16 {n}', None
+    yield (WRITE, *table, k, room(n + 3)), f'result {n}', tree + room(n + 3)[n:]
+
+
+# the paper's trees: those of state 2, of state 3 and of state 4, in the order of the rows
+TWO = [a(a(), a()), b(a(), b())]
+THREE = [a(b(), a()), a(b(), b()), b(b(), b())]
+FOUR = [a(TWO[0], TWO[0]), a(TWO[0], TWO[1]), a(TWO[1], TWO[0]), a(TWO[1], TWO[1]),
+        b(TWO[0], THREE[0], b()), b(TWO[0], THREE[1], b()), b(TWO[0], THREE[2], b()),
+        b(TWO[1], THREE[0], b()), b(TWO[1], THREE[1], b()), b(TWO[1], THREE[2], b())]
+
+# trees over the paper's table that no state is reached by, with the first bar at which that is seen
+STUCK = [
+    ([3, 0], 1), ([255, 0], 1), (b(a(), a()), 5), (a(a(), b()), 5), (b(b(), a()), 5),
+    # fewer and more children than any row has
+    (a(a()), 3), (b(b()), 3), (a(a(), a(), a()), 7), (b(a(), b(), b()), 7), (a(*[a()] * 16), 33), (a(*[a()] * 17), 35),
+    (b(TWO[0], THREE[0]), 13), (b(TWO[0], THREE[0], b(), b()), 17), (b(TWO[0]), 7), (a(TWO[0]), 7), (a(TWO[0], TWO[0], TWO[0]), 19),
+    # children in another order, or of another state
+    (b(THREE[0], TWO[0], b()), 15), (b(TWO[0], b(), THREE[0]), 15), (b(TWO[0], THREE[0], a()), 15), (b(TWO[0], TWO[0], b()), 15),
+    (a(TWO[0], THREE[0]), 13), (a(FOUR[0], FOUR[0]), 29), (b(FOUR[0], THREE[0], b()), 23), (b(TWO[0], FOUR[0], b()), 23),
+    # the first of several, by the place of its bar
+    (a([3, 0], a()), 2), (a(a(), [3, 0]), 4), (a([3, 0], [4, 0]), 2), ([3, 4, 0, 0], 2), ([3, 1, 0, 4, 0, 0], 4), ([3, 1, 0, 0], 3),
+    (a(b(a(), a()), b(a(), a())), 6), (a(TWO[0], b(a(), a())), 12), (b(b(a(), a()), [3, 0], b()), 6), (b(TWO[0], a(a()), [3, 0]), 10),
+    (b(TWO[0], THREE[0], [3, 0]), 14), (b(TWO[0], THREE[0], b(b())), 16), (a(a(a(a(a())))), 6), (a(a(a(a(), a()))), 8),
+]
+
+# more than fits 32 bits, 63 bits; less where a number is cut to 32 or 16 bits
+LARGE = [12, 13, 255, 256, 65535, 65536, 65536 + 3, 99999, 2 ** 31, LIMIT, LIMIT + 1, LIMIT + 2, 2 ** 32 + 11, 2 ** 33, 2 ** 63,
+         2 ** 63 + 5, 2 ** 64 - 12, 2 ** 64 - 2, 2 ** 64 - 1]
+
+
+def paper_edges():
+    rows = flat(PAPER)
+    paper = (5, rows, [2, 4])
+    for k, tree in enumerate(TWO + FOUR):
+        yield from both(paper, k, tree)
+    # accepting lists in another order, shorter and longer
+    for accepting, trees in (([4, 2], FOUR + TWO), ([4], FOUR), ([2], TWO), ([3, 0], THREE + [a()]), ([1, 3, 2], [b()] + THREE + TWO),
+                             ([0, 1, 2, 3, 4], [a(), b()] + TWO + THREE + FOUR), ([4, 3, 2, 1, 0], FOUR + THREE + TWO + [b(), a()])):
+        table = (5, rows, accepting)
+        for k, tree in enumerate(trees):
+            yield number(table, tree, f'result {k}')
+            yield written(table, k, tree)
+        for tree in [a(), b()] + TWO + THREE + FOUR:
+            if tree not in trees:
+                yield number(table, tree, f'refused 14 {len(tree) - 1}')
+        yield (WRITE, *table, len(trees), room(20)), 'refused 15 0', None
+    # rows in another order: the last row of a target comes first
+    table = (5, flat(PAPER[::-1]), [2, 4])
+    trees = [b(x, y, b()) for x in TWO[::-1] for y in THREE[::-1]] + [a(x, y) for x in TWO[::-1] for y in TWO[::-1]]
+    for k, tree in enumerate(TWO[::-1] + trees):
+        yield number(table, tree, f'result {k}')
+        yield written(table, k, tree)
+
+    # 14: no state, or one that is not listed
+    for tree in (a(), b(), *THREE):
+        yield number(paper, tree, f'refused 14 {len(tree) - 1}')
+    for tree, place in STUCK:
+        yield number(paper, tree, f'refused 14 {place}')
+        yield number((5, rows, [0, 1, 2, 3, 4]), tree, f'refused 14 {place}')
+    yield number(paper, [1, 0], 'refused 14 1')
+    yield number(paper, [2, 1, 0, 1, 0, 0], 'refused 14 5')
+    # no accepting entries, no rows, no states
+    yield number((5, rows, []), TWO[0], 'refused 14 5')
+    yield number((5, rows, []), [3, 0], 'refused 14 1')
+    yield number((5, [], [0]), [1, 0], 'refused 14 1')
+    yield number((0, [], []), [1, 0], 'refused 14 1')
+    yield number((0, [], []), [1, 1, 0, 0], 'refused 14 2')
+    yield number((0, [], []), [], 'refused 13 0')
+    for table in ((5, rows, []), (5, [], [0, 3]), (0, [], [])):
+        for k in (0, 1, 2 ** 64 - 1):
+            yield (WRITE, *table, k, room(3)), 'refused 15 0', None
+
+    # 12, then 13, then 14: a stuck subtree before a fault of form, or before too many entries
+    for tree, place in NO_TREES:
+        yield number(paper, tree, f'refused 13 {place}')
+    for tree, place in (([3, 0, 0], 2), ([3, 0, 1], 2), ([3, 0, 256], 2), ([1, 3, 0, 1, 0], 5), ([1, 3, 0, 0, 0], 4), ([3, 256], 1), ([3], 1),
+                        (b(a(), a()) + [0], 6), (b(a(), a()) + [1, 0], 6), ([1] + b(a(), a()), 7), ([1] + b(a(), a()) + [300, 0], 7),
+                        (TWO[0] + [0], 6), (TWO[0] + TWO[0], 6), (TWO[0][:-1], 5), (FOUR[9] + [65535], 16), ([3, 0] * 2048, 2),
+                        ([1] + [3, 0] * 2047 + [1], 4096)):
+        yield number(paper, tree, f'refused 13 {place}')
+    for tree in ([1] * 4097, [0] * 4097, [256] * 4097, [3, 0] + [0] * 4095, TWO[0] + [0] * 4091, [1] * 2049 + [0] * 2049, a(*[a()] * 2048),
+                 [1] + [3, 0] * 2047 + [0, 0], [7] * 66000):
+        yield number(paper, tree, 'refused 12 0')
+
+    # 15, also before 16
+    for k in LARGE:
+        yield (WRITE, *paper, k, room(20)), 'refused 15 0', None
+        yield (WRITE, *paper, k, []), 'refused 15 0', None
+    # entries of any value are written over, and those after the tree stay
+    yield (WRITE, *paper, 1, [0, 1, 65535, 2, 0, 65535, 0, 65535, 1]), 'result 6', [2, 1, 0, 2, 0, 0, 0, 65535, 1]
+
+
+def long_edges():
+    """Trees of 4,096 entries, and trees that go deep."""
+    rows = flat(PAPER)
+    # one within the other, side by side, and first the one and then the other
+    yield number((5, rows, [2, 4]), [1] * 2048 + [0] * 2048, 'refused 14 2049')
+    yield number((5, rows, [2, 4]), a(*[a()] * 2047), 'refused 14 4095')
+    yield number((5, rows, [2, 4]), [1] * 1024 + [1, 0] * 1024 + [0] * 1024, 'refused 14 3072')
+    yield number((5, rows, [2, 4]), a(*[a()] * 2046 + [[3, 0]]), 'refused 14 4094')
+    yield number((1, [1, 0, 0], [0]), [1] * 2048 + [0] * 2048, 'refused 14 2049')
+    yield number((0, [], []), [1] * 2048 + [0] * 2048, 'refused 14 2048')
+
+    # a chain of 256 states: no tree that is accepted is deeper
+    chain = (256, flat([[1, 0, 0]] + [[1, q, 1, q - 1] for q in range(1, 256)]), [255, 0, 17])
+    yield from both(chain, 0, [1] * 256 + [0] * 256)
+    yield number(chain, [1, 0], 'result 1')
+    yield written(chain, 2, [1] * 18 + [0] * 18)
+    yield number(chain, [1] * 255 + [0] * 255, 'refused 14 509')
+    yield number(chain, [1] * 257 + [0] * 257, 'refused 14 513')
+    yield number(chain, [1] * 2048 + [0] * 2048, 'refused 14 2304')
+
+    # 2,048 nodes, all of them open or waiting when the innermost is closed; and the same from right to left
+    for left in (True, False):
+        table, tree = [[1, 0, 0]], [1, 0]
+        for q in range(1, 256):
+            leaves = 7 if q < 255 else 14
+            table.append([1, q, leaves + 1, *([0] * leaves + [q - 1] if left else [q - 1] + [0] * leaves)])
+            tree = [1, *([1, 0] * leaves + tree if left else tree + [1, 0] * leaves), 0]
+        table = (256, flat(table), [255])
+        yield number(table, tree, 'result 0')
+        yield written(table, 0, tree)
+    yield (WRITE, *table, 0, room(4095)), 'refused 16 4096', None
+
+    # 'A leaf has 2 entries, a row of 16 leaves 34, a row of 16 of those 546. Seven of 546 and eight of 34 make 4,096'
+    leaf = [9, 0]
+    sixteen = node(5, *[leaf] * 16)
+    more = node(5, *[sixteen] * 16)
+    most = node(5, *[more] * 7, *[sixteen] * 8)
+    table = (4, flat([[9, 0, 0], [5, 1, 16] + [0] * 16, [5, 2, 16] + [1] * 16, [5, 3, 15] + [2] * 7 + [1] * 8]), [3, 2, 0, 1])
+    for k, tree in enumerate((most, more, leaf, sixteen)):
+        yield from both(table, k, tree)
+    yield (WRITE, *table, 0, room(4200)), 'result 4096', most + room(4200)[4096:]
+    yield (WRITE, *table, 0, room(66000)), 'result 4096', most + room(66000)[4096:]
+    yield number(table, most + [0], 'refused 12 0')
+    yield number(table, node(5, *[more] * 7, *[sixteen] * 7, leaf), 'refused 14 4063')
+    yield number(table, node(5, *[more] * 6, sixteen, more, *[sixteen] * 7), 'refused 14 4095')
+
+
+def empty_edges():
+    """States and rows that count 0, in front of those that are meant."""
+    # state 1 is empty; state 3 has a row, and counts 0
+    rows = [[1, 0, 0], [2, 0, 0], [1, 2, 1, 1], [1, 2, 1, 0], [2, 2, 1, 1], [2, 2, 2, 0, 0], [3, 2, 3, 0, 1, 0], [4, 3, 2, 2, 1],
+            [5, 4, 2, 3, 2], [5, 4, 2, 2, 1], [5, 4, 2, 0, 2], [6, 4, 1, 3], [7, 4, 0], [8, 4, 2, 1, 3]]
+    table = (5, flat(rows), [1, 2, 3, 0])
+    trees = [a(a()), a(b()), b(a(), a()), b(a(), b()), b(b(), a()), b(b(), b()), a(), b()]
+    for k, tree in enumerate(trees):
+        yield from both(table, k, tree)
+    yield (WRITE, *table, 8, room(9)), 'refused 15 0', None
+    yield number(table, [7, 0], 'refused 14 1')
+    yield number(table, node(3, a(), a(), a()), 'refused 14 7')
+    yield number(table, node(4, a(a()), a()), 'refused 14 7')
+    # state 4: row 10 counts 12, after two that count 0; row 12 counts 1
+    table = (5, flat(rows), [3, 4, 1])
+    for k in range(12):
+        tree = node(5, trees[6 + k // 6], trees[k % 6])
+        yield number(table, tree, f'result {k}')
+        yield written(table, k, tree)
+    yield from both(table, 12, [7, 0])
+    yield (WRITE, *table, 13, room(9)), 'refused 15 0', None
+    # accepting lists of states that count 0
+    for k in (0, 1, 2 ** 32):
+        yield (WRITE, 5, flat(rows), [1, 3], k, room(9)), 'refused 15 0', None
+    yield number((5, flat(rows), [1, 3]), a(), 'refused 14 1')
+    # 65,536 * 65,536 * 0 before a row that counts 1: the row is passed over
+    squares = [[1, 0, 0], [2, 0, 0], [1, 1, 2, 0, 0], [1, 2, 2, 1, 1], [1, 3, 2, 2, 2], [1, 4, 2, 3, 3]]
+    table = (7, flat(squares + [[1, 6, 3, 4, 4, 5], [1, 6, 3, 5, 4, 4], [9, 6, 1, 0]]), [5, 6])
+    yield from both(table, 0, node(9, a()))
+    yield from both(table, 1, node(9, b()))
+    yield (WRITE, *table, 2, room(9)), 'refused 15 0', None
+
+
+def sums_edges():
+    """Numbers up to 4,294,967,294."""
+    # state k counts 2 ** (k + 1) - 1: its leaf, a(..) and b(..)
+    rows = []
+    for k in range(32):
+        rows += [[10 + k, k, 0]] + [[symbol, k, 1, k - 1] for symbol in (1, 2) if k > 0]
+    # the last of state k: b(b(..b(leaf of 0)))
+    last = [[2] * k + [10] + [0] * (k + 1) for k in range(32)]
+    table = (32, flat(rows), [31])
+    for k, tree in ((0, [41, 0]), (1, [1, 40, 0, 0]), (2, [1, 1, 39, 0, 0, 0]), (31, [1] * 31 + [10] + [0] * 32), (2 ** 31 - 1, a(last[30])),
+                    (2 ** 31, b([40, 0])), (2 ** 31 + 1, b(a([39, 0]))), (LIMIT - 2, [2] * 30 + [1, 10] + [0] * 32), (LIMIT - 1, last[31])):
+        yield from both(table, k, tree)
+    for k in (LIMIT, LIMIT + 1, 2 ** 33 - 2, 2 ** 64 - 1):
+        yield (WRITE, *table, k, room(70)), 'refused 15 0', None
+    # all states from 30 down to 0 listed: their sum is 2 ** 32 - 33
+    table = (32, flat(rows), list(range(30, -1, -1)))
+    for k, tree in ((0, [40, 0]), (2 ** 31 - 2, last[30]), (2 ** 31 - 1, [39, 0]), (2 ** 31 + 2 ** 30 - 3, last[29]), (2 ** 31 + 2 ** 30 - 2, [38, 0]),
+                    (2 ** 32 - 33 - 4, [11, 0]), (2 ** 32 - 33 - 2, last[1]), (2 ** 32 - 33 - 1, [10, 0])):
+        yield from both(table, k, tree)
+    yield (WRITE, *table, 2 ** 32 - 33, room(70)), 'refused 15 0', None
+    # and from 0 up to 30
+    table = (32, flat(rows), list(range(31)))
+    for k, tree in ((0, [10, 0]), (1, [11, 0]), (3, last[1]), (4, [12, 0]), (2 ** 31 - 32, [40, 0]), (2 ** 32 - 34, last[30])):
+        yield from both(table, k, tree)
+    # 65,535 * 65,537: state 15, and state 16 with the rows c(15), 200, 201; so numbers are 65,537 times the first value plus the second
+    rows = [row for row in rows if row[1] < 16] + [[3, 16, 1, 15], [200, 16, 0], [201, 16, 0], [4, 17, 2, 15, 16]]
+    table = (18, flat(rows), [17])
+    for k, tree in ((0, node(4, [25, 0], node(3, [25, 0]))), (1, node(4, [25, 0], node(3, a([24, 0])))), (65534, node(4, [25, 0], node(3, last[15]))),
+                    (65536, node(4, [25, 0], [201, 0])), (65537, node(4, a([24, 0]), node(3, [25, 0]))), (131073, node(4, a([24, 0]), [201, 0])),
+                    (32768 * 65537 + 65535, node(4, b([24, 0]), [200, 0])), (65534 * 65537, node(4, last[15], node(3, [25, 0]))),
+                    (LIMIT - 1, node(4, last[15], [201, 0]))):
+        yield from both(table, k, tree)
+    yield (WRITE, *table, LIMIT, room(70)), 'refused 15 0', None
+    # a row of 16 arguments that count 2: the number's bits, the first child for the highest
+    table = (2, [1, 0, 0, 2, 0, 0, 3, 1, 16] + [0] * 16, [0, 1])
+    for k in (0, 1, 2, 255, 256, 32767, 32768, 43690, 65534, 65535):
+        yield from both(table, k + 2, node(3, *([1 + int(bit), 0] for bit in format(k, '016b'))))
+    yield (WRITE, *table, 65538, room(40)), 'refused 15 0', None
+    # a row of five arguments that count 10: the number's digits
+    table = (2, flat([[10 + digit, 0, 0] for digit in range(10)] + [[1, 1, 5, 0, 0, 0, 0, 0]]), [1])
+    for k in (0, 9, 10, 12345, 99998, 99999):
+        yield from both(table, k, node(1, *([10 + int(digit), 0] for digit in format(k, '05'))))
+    yield (WRITE, *table, 100000, room(40)), 'refused 15 0', None
+
+
+def many_edges():
+    """1,024 rows."""
+    # row i counts 1, and its tree in state 1 has the value i - 1
+    table = (2, flat(many_rows(1024)), [1])
+    yield number(table, [255, 0], 'result 253')
+    yield written(table, 254, [1, 1, 0, 0])
+    yield from both(table, 1022, node(4, *[[1, 0]] * 4))
+    yield (WRITE, *table, 1023, room(10)), 'refused 15 0', None
+    yield number(table, node(5, *[[1, 0]] * 4), 'refused 14 9')
+    yield number(table, [1, 0], 'refused 14 1')
+    # nearly all with 16 arguments that differ little
+    bits = [[*map(int, format(i, '016b'))] for i in range(1022)]
+    table = (3, flat([[1, 0, 0], [2, 1, 0]] + [[7, 2, 16, *arguments] for arguments in bits]), [2, 0])
+    yield number(table, node(7, *([1 + bit, 0] for bit in bits[1021])), 'result 1021')
+    yield written(table, 682, node(7, *([1 + bit, 0] for bit in bits[682])))
+    yield number(table, node(7, *([1 + int(bit), 0] for bit in format(1022, '016b'))), 'refused 14 33')
+
+
+def check_edges():
+    """'It first refuses as the check does.': whatever the tree, the number and the lent list."""
+    for case, answer in table_edges():
+        if answer.startswith('refused') and len(case[1]) + len(case[2]) < 300:
+            yield number(case, [1, 0], answer)
+            yield (WRITE, *case, 0, room(2)), answer, None
+    # state 4 counts 65,536; 5 and 6 count 2 ** 31 each
+    large = [[1, 0, 0], [2, 0, 0], [1, 1, 2, 0, 0], [1, 2, 2, 1, 1], [1, 3, 2, 2, 2], [1, 4, 2, 3, 3], [3, 5, 5, 0, 1, 2, 3, 4], [4, 6, 5, 0, 1, 2, 3, 4]]
+    for states, rows, accepting, answer in ((257, [1], [300], 'refused 1 0'), (5, flat(PAPER) + [1], [2, 4], 'refused 2 9'),
+                                            (5, flat(PAPER), [2, 4, 2], 'refused 7 2'), (7, flat(large), [6, 5], 'refused 11 0')):
+        for tree in ([1, 0], [], [0], [256], [3, 0], [1] * 4097):
+            yield number((states, rows, accepting), tree, answer)
+        for k in (0, 12, 2 ** 32, 2 ** 64 - 1):
+            yield (WRITE, states, rows, accepting, k, []), answer, None
+
+
+def edges():
+    yield from paper_edges()
+    yield from long_edges()
+    yield from empty_edges()
+    yield from sums_edges()
+    yield from many_edges()
+    yield from check_edges()
+
+
+# All trees of small tables
+
+def enumerated(draw, count):
+    """Cases with their outcomes, and what the lent list then holds: every tree and every number, the total, and some trees that are refused."""
+    small = 0
+    while small < count:
+        _, rows, accepting = table = sound(draw, draw.between(2, 5), draw.between(3, 8), draw.pick([2, 2, 3]), 2).case()
+        answer = check(*table)
+        if answer[0] == 'refused' or answer[1] not in range(2, 31):
+            continue
+        small += 1
+        trees = trees_in_order(whole_rows(rows), accepting)
+        for k, tree in enumerate(map(list_of, trees)):
+            n = len(tree)
+            yield (NUMBER, *table, tree), ('result', k), None
+            lent = room(some_room(draw, n))
+            if len(lent) < n:
+                yield (WRITE, *table, k, lent), refused(16, n), lent
+            else:
+                yield (WRITE, *table, k, lent), ('result', n), tree + lent[n:]
+        yield (WRITE, *table, len(trees), room(4)), refused(15), room(4)
+        known = {}
+        others = [tree for nodes in range(1, 5) for tree in all_trees([1, 2], nodes, known)]
+        for tree in draw.shuffled(others)[:6]:
+            place = refused_place(whole_rows(rows), accepting, tree)
+            outcome = ('result', trees.index(tree)) if place is None else refused(14, place)
+            yield (NUMBER, *table, list_of(tree)), outcome, None
+
+
+# Larger tables
+
+def end_of(tree, at):
+    """The place after the subtree that begins here."""
+    opened = 0
+    while True:
+        opened += 1 if tree[at] else -1
+        at += 1
+        if opened == 0:
+            return at
+
+
+def damaged(draw, tree, symbols):
+    """A tree with a symbol replaced, a subtree taken out, repeated, or replaced by another one; or a list with an entry edited."""
+    kind = draw.below(6)
+    if kind == 0:
+        return edited_tree(draw, tree, max(symbols))
+    nodes = [place for place, entry in enumerate(tree) if entry]
+    at = draw.pick(nodes[1:] or nodes)
+    end = end_of(tree, at)
+    if kind == 1:
+        return tree[:at] + [draw.pick(symbols)] + tree[at + 1:]
+    if kind == 2:
+        return tree[:at] + tree[end:]
+    if kind == 3:
+        return tree[:end] + tree[at:end] + tree[end:]
+    other = draw.pick(nodes)
+    return tree[:at] + tree[other:end_of(tree, other)] + tree[end:]
+
+
+def layered(draw, states, rows, arguments, symbols):
+    """A sound table that has many trees: arguments are mostly among the states just below the target."""
+    t = sound(draw, states, 0, 0, 1)
+    t.rows, seen = [], set()
+    for i in range(rows):
+        target = i % states if i < states else draw.below(states)
+        count = draw.between(0, arguments) if target > 0 else 0
+        symbol = draw.between(1, symbols)
+        key = (symbol, *(max(0, target - draw.pick([1, 1, 2, 3, target])) for _ in range(count)))
+        if key not in seen:
+            seen.add(key)
+            t.row(symbol, target, *key[1:])
+    return t
+
+
+def wide(draw):
+    """1,024 rows, most of them with up to 16 arguments: nearly all arguments are states that count 1."""
+    t = Table(8, [[1, 0, 0], [2, 1, 0], [3, 2, 0], [4, 2, 0]], [7, 5, 6, 3])
+    seen = set()
+    while len(t.rows) < 1024:
+        target = draw.between(3, 7)
+        key = (draw.between(1, 255), *(2 if draw.chance(0.1) else draw.below(2) for _ in range(draw.between(1, 16))))
+        if target > 3 and draw.chance(0.1):
+            key += (draw.between(3, target - 1),)
+            key = key[:17]
+        if key not in seen:
+            seen.add(key)
+            t.row(key[0], target, *key[1:])
+    return t
+
+
+def tall(draw):
+    """Few rows, with long trees: state 0 counts 1, state 1 counts 2, and one state in three has a second row."""
+    t = Table(draw.between(5, 12), [[1, 0, 0], [2, 1, 0], [3, 1, 0]])
+    for target in range(2, t.states):
+        arguments = [draw.pick([target - 1, target - 2, 0, 0, 0, 0, draw.below(target)]) for _ in range(draw.between(1, 16))]
+        t.row(draw.between(4, 6), target, *arguments)
+        if draw.chance(0.3):
+            t.row(draw.between(7, 9), target, *draw.shuffled(arguments))
+    t.accepting = [t.states - 1, t.states - 2]
+    return t
+
+
+def some_table(draw, n):
+    """A table that passes the check, with its total. Totals of all sizes."""
+    least = draw.pick([1, 1, 10, 100, 10000, 1000000, 100000000])
+    while True:
+        if n % 100 == 99:
+            t = wide(draw)
+            least = 1
+        elif n % 50 == 24:
+            t = sound(draw, 256, draw.between(300, 1024), 2, draw.pick([20, 255]))
+            least = 100
+        elif n % 10 == 9:
+            t = tall(draw)
+            least = 2
+        else:
+            t = layered(draw, draw.between(3, 12), draw.between(6, 25), draw.pick([2, 3, 5]), draw.pick([2, 5, 255])) if draw.chance(0.6) else any_sound(draw)
+            if draw.chance(0.6):
+                t.accepting = draw.shuffled(range(t.states))
+        # a first look, quicker than the check
+        counts = Counts([Row(row[0], row[1], tuple(row[3:])) for row in t.rows])
+        if any(counts.of_state(state) > LIMIT for state in range(t.states)) or counts.total(t.accepting) < least:
+            continue
+        if n % 10 == 9 and n % 100 != 99 and counts.longest(t.accepting[0]) < 500:
+            continue
+        if check(*t.case())[0] == 'total':
+            return t.case(), counts.total(t.accepting)
+
+
+def some_number(draw, total):
+    """Mostly below the total, near its ends too."""
+    kind = draw.below(12)
+    if kind == 0:
+        return draw.pick([0, total - 1])
+    if kind == 1:
+        return draw.pick([total, total + 1, total + 2 ** 32, 2 ** 64 - 1])
+    return draw.below(total)
+
+
+def drawn(draw, count):
+    """Trees of numbers below the total, numbered and written, and damaged trees."""
+    for n in range(count):
+        table, total = some_table(draw, n)
+        symbols = table[1][:1] + [row.symbol for row in whole_rows(table[1])] + [255]
+        outcome, tree = write(*table, draw.below(total), [0] * 4096)
+        tree = tree[:outcome[1]]
+        yield NUMBER, *table, tree
+        k = some_number(draw, total)
+        yield WRITE, *table, k, room(some_room(draw, min(len(tree) * 2, 4096)))
+        if n % 100 != 99:
+            yield NUMBER, *table, damaged(draw, tree, symbols)
