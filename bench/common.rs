@@ -1,4 +1,4 @@
-//! What the two benchmarks share: answers, a hasher, random draws, and how time and stack are measured.
+//! What the benchmarks share: answers, a hasher, random draws, and how time and stack are measured.
 
 use std::arch::asm;
 use std::hash::Hasher;
@@ -206,16 +206,18 @@ pub fn time<T>(name: &str, goal: Option<f64>, inputs: &[T], mut runs: [Run<T>; 3
 
 // The stack
 
-/// Calls a C function of at most seven words on a stack of its own, filled with `paint`. Gives what the function
+/// Calls a C function of at most nine words on a stack of its own, filled with `paint`. Gives what the function
 /// returned, and how many bytes of the stack the call changed, from the return address on down.
 ///
 /// Safety: `function` is such a function, and may be called with these words.
-unsafe fn painted(function: *const (), words: [usize; 7], paint: u8) -> (u32, usize) {
+unsafe fn painted(function: *const (), words: [usize; 9], paint: u8) -> (u32, usize) {
     let mut stack = vec![u128::from_ne_bytes([paint; 16]); 1 << 16];
-    let bytes = (stack.len() - 1) * 16;
-    // The seventh word stands above the return address.
-    let top = stack.as_mut_ptr().byte_add(bytes);
-    top.write(words[6] as u128);
+    let bytes = (stack.len() - 2) * 16;
+    // The words from the seventh on stand above the return address.
+    let top: *mut usize = stack.as_mut_ptr().byte_add(bytes).cast();
+    for (i, &word) in words[6..].iter().enumerate() {
+        top.add(i).write(word);
+    }
     let number: usize;
     // The stack is 16-byte aligned and larger than what a call may use, and r12 keeps the old one.
     asm!(
@@ -239,15 +241,17 @@ unsafe fn painted(function: *const (), words: [usize; 7], paint: u8) -> (u32, us
     (number as u32, bytes - untouched)
 }
 
-/// The stack that a call takes, by two paints. `words` are the words of the call, `value` the place among them where
-/// the function puts its value, and `expected` its answer.
+/// The stack that a call takes, by two paints. `words` are the words of the call but the last, which is where the
+/// function puts its value, and `expected` is its answer.
 ///
 /// Safety: as for `painted`, and the function puts a u64.
-pub unsafe fn stack_use(function: *const (), mut words: [usize; 7], value: usize, expected: Answer) -> usize {
+pub unsafe fn stack_use(function: *const (), words: &[usize], expected: Answer) -> usize {
     let mut put = 0u64;
-    words[value] = &raw mut put as usize;
+    let mut all = [0; 9];
+    all[..words.len()].copy_from_slice(words);
+    all[words.len()] = &raw mut put as usize;
     let used = [0xa5, 0x5a].map(|paint| {
-        let (number, used) = painted(function, words, paint);
+        let (number, used) = painted(function, all, paint);
         assert_eq!(answer(number, unsafe { (&raw const put).read_volatile() }), expected);
         used
     });

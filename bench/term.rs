@@ -2,13 +2,14 @@
 //! lists first, then the time and the stack. bench/run builds it and runs it; bench/README.md says what is measured.
 
 mod common;
+mod lists;
 
 use common::{answer, head, print_stack, refuse, stack_use, time, Answer, Draw, Fx, Met, Refusal};
+use lists::{chain, damage, random_tree, room, MOST_ENTRIES};
 use std::collections::hash_map::{Entry, RandomState};
 use std::collections::HashMap;
 use std::hash::{BuildHasher, BuildHasherDefault};
 
-const MOST_ENTRIES: usize = 4096;
 const MOST_BYTES: usize = 65536;
 
 /// What both operations are timed on: a names list, a tree, and its term.
@@ -298,29 +299,6 @@ fn one_bucket(draw: &mut Draw) -> Vec<Vec<u8>> {
     })
 }
 
-/// A tree of so many nodes, every shape as likely as any other.
-fn random_tree(draw: &mut Draw, nodes: usize, names: usize) -> Vec<u16> {
-    // Below the root each node opens once and closes once, and the last bar is the root's. Of the rotations of such a
-    // list exactly one never closes more than it has opened before its end.
-    let mut opens: Vec<bool> = (1..2 * nodes).map(|i| i < nodes).collect();
-    draw.shuffle(&mut opens);
-    let (mut depth, mut lowest, mut start) = (0, 0, 0);
-    for (i, &open) in opens.iter().enumerate() {
-        depth += if open { 1 } else { -1 };
-        if depth < lowest {
-            (lowest, start) = (depth, i + 1);
-        }
-    }
-    opens.rotate_left(start % (2 * nodes - 1));
-    opens.insert(0, true);
-    opens.iter().map(|&open| if open { draw.between(1, names) } else { 0 }).collect()
-}
-
-/// A tree in which every node but the last has one child.
-fn chain(draw: &mut Draw, nodes: usize, names: usize) -> Vec<u16> {
-    (0..nodes).map(|_| draw.between(1, names)).chain(vec![0; nodes]).collect()
-}
-
 fn pair(names: Vec<Vec<u8>>, tree: Vec<u16>) -> Pair {
     let mut text = vec![];
     for (place, &entry) in tree.iter().enumerate() {
@@ -350,20 +328,6 @@ fn large(draw: &mut Draw, names: fn(&mut Draw) -> Vec<Vec<u8>>) -> Pair {
 /// The line that document 01 takes from the paper.
 fn clerk() -> Pair {
     pair(vec![b"a".to_vec(), b"b".to_vec()], vec![2, 2, 1, 0, 2, 0, 0, 1, 2, 0, 2, 0, 0, 2, 0, 0])
-}
-
-/// Removes, changes or adds one item, or cuts the list off.
-fn damage<T: Copy>(draw: &mut Draw, list: &mut Vec<T>, with: &[T]) {
-    let (at, with) = (draw.below(list.len() + 1), with[draw.below(with.len())]);
-    match draw.below(4) {
-        0 => list.truncate(at),
-        1 => list.insert(at, with),
-        _ if at == list.len() => list.push(with),
-        2 => list[at] = with,
-        _ => {
-            list.remove(at);
-        }
-    }
 }
 
 /// A small pair of which any answer is likely, its parts not always of one another.
@@ -463,13 +427,6 @@ fn compare_faulty(draw: &mut Draw, inputs: usize) {
     let (mut reading, mut writing) = (Met::default(), Met::default());
     for _ in 0..inputs {
         let pair = faulty(draw);
-        // Now and then the list is too short, mostly by little.
-        let room = |draw: &mut Draw, length: usize| match draw.below(8) {
-            0 => draw.below(length + 1),
-            1 => length.saturating_sub(1),
-            2 => length,
-            _ => length + draw.below(8),
-        };
         let entries = 2 * pair.text.split(|b| !is_name_byte(b)).filter(|run| !run.is_empty()).count();
         reading.count(compare_read(&pair, room(draw, entries.min(MOST_ENTRIES))));
         writing.count(compare_write(&pair, room(draw, pair.text.len())));
@@ -496,15 +453,14 @@ fn stacks(pair: &Pair) -> (usize, usize) {
     let Pair { names, tree, text } = pair;
     let mut read = vec![0u16; tree.len()];
     let mut written = vec![0u8; text.len()];
-    let words = [names.as_ptr() as usize, names.len(), text.as_ptr() as usize, text.len()];
-    let to_read = [words[0], words[1], words[2], words[3], read.as_mut_ptr() as usize, read.len(), 0];
-    let words = [tree.as_ptr() as usize, tree.len(), written.as_mut_ptr() as usize, written.len()];
-    let to_write = [names.as_ptr() as usize, names.len(), words[0], words[1], words[2], words[3], 0];
-    // Sound: as in `library_read`; the seventh word is where the value is put.
+    let list = [names.as_ptr() as usize, names.len()];
+    let to_read = [text.as_ptr() as usize, text.len(), read.as_mut_ptr() as usize, read.len()];
+    let to_write = [tree.as_ptr() as usize, tree.len(), written.as_mut_ptr() as usize, written.len()];
+    // Sound: as in `library_read`.
     unsafe {
         (
-            stack_use(treenum_read_term as *const (), to_read, 6, Ok(tree.len() as u64)),
-            stack_use(treenum_write_term as *const (), to_write, 6, Ok(text.len() as u64)),
+            stack_use(treenum_read_term as *const (), &[&list[..], &to_read].concat(), Ok(tree.len() as u64)),
+            stack_use(treenum_write_term as *const (), &[&list[..], &to_write].concat(), Ok(text.len() as u64)),
         )
     }
 }

@@ -1,0 +1,266 @@
+//! What the benchmarks about tables share: a table, its check by the library, and how tables are drawn.
+
+use crate::common::{answer, Answer, Draw};
+use std::collections::HashSet;
+
+pub const LIMIT: u64 = u32::MAX as u64;
+
+#[derive(Clone, Default)]
+pub struct Table {
+    pub states: u64,
+    pub rows: Vec<u16>,
+    pub accepting: Vec<u16>,
+}
+
+impl Table {
+    /// The words with which a C function takes a table.
+    pub fn words(&self) -> [usize; 5] {
+        let Table { states, rows, accepting } = self;
+        [*states as usize, rows.as_ptr() as usize, rows.len(), accepting.as_ptr() as usize, accepting.len()]
+    }
+}
+
+// The library
+
+#[link(name = "treenum_c", kind = "static")]
+extern "C" {
+    pub fn treenum_check(
+        states: u64,
+        rows: *const u16,
+        rows_len: usize,
+        accepting: *const u16,
+        accepting_len: usize,
+        value: *mut u64,
+    ) -> u32;
+}
+
+#[inline(never)]
+pub fn library_check(table: &Table) -> Answer {
+    let mut value = 0;
+    // Sound: a Vec's pointer is aligned and not null, also for a length of 0.
+    let number = unsafe {
+        treenum_check(
+            table.states,
+            table.rows.as_ptr(),
+            table.rows.len(),
+            table.accepting.as_ptr(),
+            table.accepting.len(),
+            &mut value,
+        )
+    };
+    answer(number, value)
+}
+
+// Tables
+
+/// The list in which these rows are lent: symbols, targets and arguments.
+pub fn packed(rows: &[(u16, u16, Vec<u16>)]) -> Vec<u16> {
+    rows.iter()
+        .flat_map(|(symbol, target, args)| {
+            [*symbol, *target, args.len() as u16].into_iter().chain(args.iter().copied())
+        })
+        .collect()
+}
+
+/// A table under construction. It takes a row only if the table then passes the check.
+pub struct Maker {
+    states: usize,
+    pub rows: Vec<(u16, u16, Vec<u16>)>,
+    taken: HashSet<(u16, Vec<u16>)>,
+    counts: Vec<u64>,
+    longest: Vec<u64>,
+}
+
+impl Maker {
+    pub fn new(states: usize) -> Maker {
+        Maker { states, rows: vec![], taken: HashSet::new(), counts: vec![0; states], longest: vec![0; states] }
+    }
+
+    /// Adds a row, unless it is there or would pass a limit. Targets come in ascending order.
+    pub fn add(&mut self, symbol: u16, target: u16, args: Vec<u16>) -> bool {
+        assert!(args.len() <= 16 && args.iter().all(|&a| a < target) && usize::from(target) < self.states);
+        let q = usize::from(target);
+        let count = args.iter().map(|&a| self.counts[usize::from(a)]).fold(1, u64::saturating_mul);
+        let long = 2 + args.iter().map(|&a| self.longest[usize::from(a)]).sum::<u64>();
+        if self.counts[q].saturating_add(count) > LIMIT || (count > 0 && long > 4096) {
+            return false;
+        }
+        if !self.taken.insert((symbol, args.clone())) {
+            return false;
+        }
+        self.counts[q] += count;
+        if count > 0 {
+            self.longest[q] = self.longest[q].max(long);
+        }
+        self.rows.push((symbol, target, args));
+        true
+    }
+
+    /// One leaf for each of the first n states, which then count 1.
+    pub fn leaves(&mut self, n: usize) {
+        for q in 0..n as u16 {
+            assert!(self.add(q + 1, q, vec![]));
+        }
+    }
+
+    /// The table, its rows in a random order, with some of its states accepting.
+    pub fn table(mut self, draw: &mut Draw) -> Table {
+        draw.shuffle(&mut self.rows);
+        let mut accepting: Vec<u16> = (0..self.states as u16).collect();
+        draw.shuffle(&mut accepting);
+        let mut total = 0;
+        accepting.retain(|&q| {
+            let count = self.counts[usize::from(q)];
+            let keep = draw.below(2) == 0 && total + count <= LIMIT;
+            total += if keep { count } else { 0 };
+            keep
+        });
+        Table { states: self.states as u64, rows: packed(&self.rows), accepting }
+    }
+}
+
+/// 1,024 rows over 256 states: leaves for the first 32 states, and rows of 16 arguments, most of them leaves.
+pub fn random_rows(draw: &mut Draw) -> Table {
+    let mut maker = Maker::new(256);
+    maker.leaves(32);
+    for i in 0..992 {
+        let target = 32 + i * 224 / 992;
+        while !maker.add(
+            draw.between(1, 255),
+            target as u16,
+            (0..16)
+                .map(|_| if draw.below(16) == 0 { draw.between(0, target - 1) } else { draw.between(0, 31) })
+                .collect(),
+        ) {}
+    }
+    maker.table(draw)
+}
+
+/// A table as a logger has it: 40 rows, 12 symbols, each with its own count of arguments, 10 to 20 states.
+pub fn logger(draw: &mut Draw) -> Table {
+    const ARGUMENTS: [usize; 12] = [0, 0, 0, 0, 0, 1, 1, 2, 2, 2, 3, 4];
+    'anew: loop {
+        let states = usize::from(draw.between(10, 20));
+        let mut targets: Vec<u16> = (0..states as u16).collect();
+        while targets.len() < 40 {
+            targets.push(draw.between(1, states - 1));
+        }
+        targets.sort();
+        let mut maker = Maker::new(states);
+        for target in targets {
+            let mut tries = 0;
+            loop {
+                let symbol = if target == 0 { draw.between(1, 5) } else { draw.between(1, 12) };
+                let args = (0..ARGUMENTS[usize::from(symbol - 1)])
+                    .map(|_| draw.between(0, usize::from(target) - 1))
+                    .collect();
+                if maker.add(symbol, target, args) {
+                    break;
+                }
+                tries += 1;
+                if tries == 1000 {
+                    continue 'anew;
+                }
+            }
+        }
+        return maker.table(draw);
+    }
+}
+
+/// The table of 9 rows that document 01 takes from the paper.
+pub fn paper() -> Table {
+    Table {
+        states: 5,
+        rows: vec![
+            1, 0, 0, 2, 1, 0, 1, 2, 2, 0, 0, 2, 2, 2, 0, 1, 1, 3, 2, 1, 0, 1, 3, 2, 1, 1, 2, 3, 2, 1, 1, 1, 4, 2,
+            2, 2, 2, 4, 3, 2, 3, 1,
+        ],
+        accepting: vec![2, 4],
+    }
+}
+
+/// The bucket of a row: the hash of crates/index/src/lib.rt.
+pub fn bucket(symbol: u16, args: &[u16]) -> u64 {
+    let mut h = u64::from(symbol);
+    for &a in args {
+        h = (h * 2654435769 + u64::from(a)) % 4294967296;
+    }
+    h * 2654435769 % 4294967296 / 2097152
+}
+
+/// A small table of which any answer is likely, also by a single changed entry.
+pub fn faulty(draw: &mut Draw) -> Table {
+    let mut table = match draw.below(8) {
+        0 => paper(),
+        1 => {
+            // Each state has a single row over the one before: counts 1, or squares, or 16th powers.
+            let (leaves, power, states) = (draw.between(1, 2), [2, 16][draw.below(2)], draw.between(1, 7));
+            let mut rows: Vec<u16> = (1..=leaves).flat_map(|symbol| [symbol, 0, 0]).collect();
+            for q in 1..states {
+                rows.extend([1, q, power as u16]);
+                rows.extend(vec![q - 1; power]);
+            }
+            Table { states: u64::from(states), rows, accepting: vec![states - 1] }
+        }
+        2 => {
+            // Counts 2, 4, 16, 256, 65,536, 2 to the 31st twice.
+            let mut maker = Maker::new(7);
+            maker.leaves(1);
+            maker.add(2, 0, vec![]);
+            for q in 1..5 {
+                maker.add(1, q, vec![q - 1, q - 1]);
+            }
+            maker.add(1, 5, vec![0, 1, 2, 3, 4]);
+            maker.add(2, 6, vec![0, 1, 2, 3, 4]);
+            let mut table = maker.table(draw);
+            if draw.below(2) == 0 {
+                table.accepting = vec![6, 5];
+            }
+            table
+        }
+        3 => {
+            let extra = draw.below(4);
+            let rows = (0..1023 + extra)
+                .flat_map(|i| [(i % 255 + 1) as u16, 1, (i / 255) as u16].into_iter().chain(vec![0; i / 255]));
+            Table { states: 2, rows: rows.collect(), accepting: vec![1] }
+        }
+        4 => {
+            // Longest trees of 2, 34, 546 and 4,096 entries, or 4,098 with one leaf more.
+            let mut rows = vec![1, 0, 0];
+            let last = [vec![2; 7], vec![1; 8], vec![0; draw.below(2)]].concat();
+            for (q, args) in [(1, vec![0; 16]), (2, vec![1; 16]), (3, last)] {
+                rows.extend([1, q, args.len() as u16]);
+                rows.extend(args);
+            }
+            Table { states: 4, rows, accepting: vec![3] }
+        }
+        5 => {
+            // Counts 65,535 in state 9, 65,537 in state 10, and their product, 2 to the 32nd less 1, in state 11.
+            let rows = vec![
+                1, 0, 0, 2, 0, 0, 1, 1, 2, 0, 0, 1, 2, 2, 1, 1, 1, 3, 2, 2, 2, 1, 4, 2, 3, 3, 3, 5, 0, 4, 5, 0, 5,
+                5, 0, 3, 6, 1, 1, 6, 6, 0, 3, 7, 1, 2, 7, 7, 0, 3, 8, 1, 3, 8, 8, 0, 1, 9, 4, 5, 6, 7, 8, 3, 10, 1,
+                4, 9, 10, 0, 1, 11, 2, 9, 10,
+            ];
+            Table { states: 12, rows, accepting: [vec![11], vec![0; draw.below(2)]].concat() }
+        }
+        _ => logger(draw),
+    };
+    for _ in 0..draw.below(3) {
+        let row = table.rows.len();
+        match draw.below(7) {
+            0 => table.states = u64::from(draw.between(0, 300)),
+            1 => table.rows.truncate(draw.below(row + 1)),
+            2 => table.rows.extend([1, 4, 17].iter().chain(&[0; 17])),
+            3 => {
+                let (at, with) = (draw.below(row + 1), [0, 1, 2, 5, 12, 16, 255, 256, 65535][draw.below(9)]);
+                if at < row {
+                    table.rows[at] = with;
+                }
+            }
+            4 => table.accepting.push(draw.between(0, 21)),
+            5 => table.accepting = (0..table.states.min(300) as u16).collect(),
+            _ => table.rows.extend([draw.between(1, 2), draw.between(0, 4), 0]),
+        }
+    }
+    table
+}
