@@ -1,11 +1,11 @@
 -- The lines of a names list, taken one after another. Assumes nothing.
 use Prim.Native.Nat.{ℕ, suc, _+_, _-_, _*_, _<_, _≤_}
 use mathlib.Core.Path.{_≡_, refl, sym, ap, _∙_}
-use mathlib.Core.Bool.{Bool, true, false, _&&_, _||_, not, or-true}
+use mathlib.Core.Bool.{Bool, true, false, _&&_, _||_, not, and-false, or-true}
 use mathlib.Core.List.{List, [], _∷_, _++_, append-assoc, append-nil, head-eq-of-cons-eq, tail-eq-of-cons-eq}
 use native.Mathlib.Omega.{arith}
 use native.Mathlib.Nat.{pos-of-ne-zero}
-use lib.ListN.{length, getD, set, take, drop, length-append, length-drop, length-set, drop-of-length-le}
+use lib.ListN.{length, getD, set, take, drop, length-append, length-drop, length-set, drop-of-length-le, replicate, length-replicate, getD-replicate}
 use lib.Seq.{drop-drop, drop-at, take-at, drop-cons, getD-drop, getD-set-same, getD-set-other}
 use lib.Dec.{eqb, ltb, leb}
 use borrow.Author.Tests.{eqb-true, ltb-true, lt-ltb, le-ltb, ltb-false, le-leb, lt-leb, eq-eqb, ne-eqb}
@@ -24,10 +24,6 @@ use Rattle.model.proofs.Lists.{drop-next}
 use Rattle.names.proofs.Bytes.{run-more}
 use Rattle.names.specs.Listed.{nameEnd, nameFound, hashOf, bucketOf, Stands, Known, Started, Answered}
 use Rattle.names.specs.declared.Names.the-variants.{Faulty, Sound as NamesSound}
-
-and-no : (t : Bool) → (t && false) ≡ false
-and-no true = refl
-and-no false = refl
 
 and-true-is : (t : Bool) → (t && true) ≡ t
 and-true-is true = refl
@@ -61,7 +57,7 @@ first-bad (b ∷ n) y ys e f g = rw (byte-not-ten b (byte-first b n e)) (go (lin
   where
     go : (ls : List Line) → allNameBytes (getD ls 0 noLine .bytes) ≡ false → allNameBytes (getD (joined b ls) 0 noLine .bytes) ≡ false
     go [] h = let z : _≡_ {A = ℕ} 0 1 = cc in absurd (omega arith)
-    go (l ∷ ls) h = rw h (and-no (isNameByte b))
+    go (l ∷ ls) h = rw (h, and-false)
 
 -- a first line with byte 10 after it: the bytes after that, and the lines after it
 record Split (xs : List ℕ) (ls : List Line) : Type 0 where
@@ -119,7 +115,7 @@ module _ (names : List ℕ) (at end : ℕ) (l : end ≡ at + length (run (drop a
   end-open e =
       let r : drop at names ≡ run (drop at names) = rest-is ∙ ap (λ (x : List ℕ). run (drop at names) ++ x) (drop-of-length-le names {i = end} (omega arith)) ∙ append-nil (run (drop at names)) in
       let f : lineAt (drop at names) 0 .ended ≡ false = ap (λ (x : List ℕ). lineAt x 0 .ended) r ∙ first-open (run (drop at names)) clean in
-      rw (f, and-no (isName (lineAt (drop at names) 0 .bytes)))
+      rw (f, and-false)
 
   -- before another byte than 10
   pub end-bad : end < length names → (getD names end 0 ≡ 10 → ⊥) → Nothing ≡ nameEnd names at
@@ -409,3 +405,11 @@ sound-list {names} {starts} {heads} {next} {n} s ge nz = record {
   where
     same : {m : ℕ} → NamesSound n ≡ NamesSound m → n ≡ m
     same h = cc
+
+-- ---- arrays as they are made
+
+pub fresh : Started (replicate 256 0) × Clear 512 256 (replicate 512 0) (replicate 256 0)
+fresh = (
+  record { long = length-replicate {A = ℕ} 256 0; first = getD-replicate {A = ℕ} 256 0 0 0 (omega arith) },
+  record { heads-long = length-replicate {A = ℕ} 512 0; next-long = length-replicate {A = ℕ} 256 0; none = λ b lt. getD-replicate {A = ℕ} 512 b 0 0 lt },
+)

@@ -1,7 +1,7 @@
 -- The names in a text, found one after another, and their grounds for 20. Assumes nothing.
 use Prim.Native.Nat.{ℕ, zero, suc, _+_, _-_, _<_, _≤_}
 use mathlib.Core.Path.{_≡_, refl, sym, ap, _∙_}
-use mathlib.Core.Bool.{Bool, true, false, _&&_, not}
+use mathlib.Core.Bool.{Bool, true, false, _&&_, not, and-false}
 use mathlib.Core.List.{List, [], _∷_, _++_}
 use native.Mathlib.Omega.{arith}
 use native.Mathlib.Numerals.{add-one}
@@ -40,11 +40,7 @@ begins-not text (suc i) e = rw e
 
 inside-not : (text : List ℕ) (i : ℕ) → isNameByte (getD text i 0) ≡ true → nameBegins text (suc i) ≡ false
 unfolding nameBegins
-inside-not text i e = rw e (and-no (isNameByte (getD text (suc i) 0)))
-  where
-    and-no : (t : Bool) → (t && false) ≡ false
-    and-no true = refl
-    and-no false = refl
+inside-not text i e = rw (e, and-false)
 
 -- 20 by its two tests
 ground-by : (names text : List ℕ) (i : ℕ) (a b : Bool) → nameBegins text i ≡ a → isListed names (nameAt text i) ≡ b → nameGround names text i ≡ (if a && not b then 20 else 0)

@@ -63,7 +63,7 @@ pub record Listed (accepting counts : List ℕ) (number : ℕ) : Type 0 where
   pub states : (i : ℕ) → i < length accepting → getD accepting i 0 < 256
   pub less : number < sum (map (held counts) accepting)
 
--- "find the accepting state by the sums"
+-- the accepting state, found by the sums
 abbrev pub spotOf : (accepting counts : List ℕ) (number : ℕ) → Spot
 spotOf accepting counts number =
     let found = findBy (map (held counts) accepting) number in

@@ -1,21 +1,12 @@
-use Prim.Native.Nat.{ℕ}
 use mathlib.Core.Path.{_∙_}
-use lib.ListN.{length-replicate, getD-replicate}
+use Rattle.table.proofs.Blank.{blank}
 use Rattle.rank.proofs.Tables.{tree-fits, table-refused, number-ready, tree-refused, tree-numbered}
 use borrow.Author.Needs.{needs}
 use Rattle.rank.proofs.number.Statement.{statement}
 use Rattle.rank.proofs.number.Tie as tie
 
 check-into-requires : tie.Need-check-into-requires
-check-into-requires c κs =
-    record {
-      offsets-long = length-replicate {A = ℕ} 1024 0;
-      clear = record { heads-long = length-replicate {A = ℕ} 2048 0; next-long = length-replicate {A = ℕ} 1024 0; none = λ b lt. getD-replicate {A = ℕ} 2048 b 0 0 lt };
-      unchained = record { first-long = length-replicate {A = ℕ} 256 0; after-long = length-replicate {A = ℕ} 1024 0; none = λ q lt. getD-replicate {A = ℕ} 256 q 0 0 lt };
-      counts-long = length-replicate {A = ℕ} 256 0;
-      longest-long = length-replicate {A = ℕ} 256 0;
-      sums-long = length-replicate {A = ℕ} 1024 0;
-    }
+check-into-requires c κs = blank
 
 number-tree-requires : tie.Need-number-tree-requires
 number-tree-requires c κs = (number-ready _ (c .before .before .before .before .before .before .before .before .before .before .before .before .before .before .before .before .before .before .before .before .before .before .before .args .tree .now) (c .before .before .before .before .before .before .before .before .before .before .before .check-into .ensures) _ _ (c .before .before .before .before .before .before .before .before .before .n .given .1), tree-fits (c .before .before .before .before .before .before .before .check-tree .ensures) (c .before .before .before .before .before .enum-told .given .1))

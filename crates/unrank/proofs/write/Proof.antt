@@ -1,5 +1,4 @@
-use Prim.Native.Nat.{ℕ}
-use lib.ListN.{length-replicate, getD-replicate}
+use Rattle.table.proofs.Blank.{blank}
 use Rattle.unrank.proofs.Ready.{ready}
 use Rattle.unrank.proofs.Outcomes.{write-refused, write-above, write-below}
 use borrow.Author.Needs.{needs}
@@ -7,14 +6,7 @@ use Rattle.unrank.proofs.write.Statement.{statement}
 use Rattle.unrank.proofs.write.Tie as tie
 
 check-into-requires : tie.Need-check-into-requires
-check-into-requires c κs = record {
-  offsets-long = length-replicate {A = ℕ} 1024 0;
-  clear = record { heads-long = length-replicate {A = ℕ} 2048 0; next-long = length-replicate {A = ℕ} 1024 0; none = λ b lt. getD-replicate {A = ℕ} 2048 b 0 0 lt };
-  unchained = record { first-long = length-replicate {A = ℕ} 256 0; after-long = length-replicate {A = ℕ} 1024 0; none = λ q lt. getD-replicate {A = ℕ} 256 q 0 0 lt };
-  counts-long = length-replicate {A = ℕ} 256 0;
-  longest-long = length-replicate {A = ℕ} 256 0;
-  sums-long = length-replicate {A = ℕ} 1024 0;
-}
+check-into-requires c κs = blank
 
 returns : tie.Need-returns
 returns c = write-above (c .before .before .before .before .before .check-into .ensures) _ _ _ _ (c .before .before .before .total .given .1) _ (c .before .if1 .taken) (c .refusal .ensures)
