@@ -11,7 +11,7 @@ use borrow.Author.Tests.{lt-ltb, le-ltb, ltb-true, ltb-false}
 use borrow.Author.Count.{below-more}
 use Rattle.model.specs.declared.Kind.{Kind}
 use Rattle.model.specs.Answers.{kindNumber}
-use Rattle.model.specs.Table.{Row, noRow, rowsOf, rowNumbered, howManyRows}
+use Rattle.model.specs.Table.{Row, noRow, rowsOf, rowNumbered, howManyRows, tableOf}
 use Rattle.model.specs.Count.{sum, weight, stateCounts, count, longest}
 use Rattle.model.specs.Value.{earlierRows}
 use Rattle.model.specs.Check.{countLimit, stateGround}
@@ -20,6 +20,7 @@ use Rattle.model.proofs.Counting.{map-agree, weight-local, stateCounts-local, s
 use Rattle.model.proofs.Rows.{rowsOf-length, rowsOf-at}
 use Rattle.model.proofs.Checked.{state-good}
 use Rattle.model.proofs.Passing.{state-ground}
+use Rattle.chains.specs.First.{FirstAt}
 use Rattle.counts.specs.declared.Counted.{Counted}
 use Rattle.counts.specs.declared.StateFault.the-variants.{At, Nothing}
 use Rattle.counts.specs.Chain.{target, InOrder}
@@ -30,6 +31,20 @@ rows-ordered : (states : ℕ) (rows : List ℕ) → InOrder states rows (howMany
 rows-ordered states rows o i lt =
     let l : i < howManyRows rows = rw (rowsOf-length rows) at lt in
     rw (rowsOf-at rows i noRow l) (o .lower i l)
+
+-- no count depends on the accepting list, so no sum of earlier rows and no state's ground does
+pub count-same : (states : ℕ) (rows accepting : List ℕ) (q : ℕ) → count (rowTable states rows) q ≡ count (tableOf states rows accepting) q
+unfolding count
+count-same states rows accepting q = refl
+
+pub earlier-same : (states : ℕ) (rows accepting : List ℕ) (q k : ℕ)
+    → earlierRows (rowsOf rows) (count (rowTable states rows)) q k ≡ earlierRows (rowsOf rows) (count (tableOf states rows accepting)) q k
+unfolding count
+earlier-same states rows accepting q k = refl
+
+pub ground-same : (states : ℕ) (rows accepting : List ℕ) (q : ℕ) → stateGround countLimit (tableOf states rows accepting) q ≡ stateGround countLimit (rowTable states rows) q
+unfolding stateGround count longest
+ground-same states rows accepting q = refl
 
 -- the sums of earlier rows look only at the states below
 pub earlier-local : (rs : List Row) → Ordered rs → (c d : ℕ → ℕ) (q k : ℕ) → ((a : ℕ) → a < q → c a ≡ d a) → earlierRows rs c q k ≡ earlierRows rs d q k
@@ -108,12 +123,11 @@ module _ {states : ℕ} {rows offsets first after cs ls sums : List ℕ} {q : �
       fault = λ m k′ h. same m k′ h;
     }
       where
-        same : (m : ℕ) (k′ : Kind) → At q k ≡ At m k′
-            → (m < states) × ((a : ℕ) → a < m → stateGround countLimit (rowTable states rows) a ≡ 0) × (stateGround countLimit (rowTable states rows) m ≡ kindNumber k′)
+        same : (m : ℕ) (k′ : Kind) → At q k ≡ At m k′ → FirstAt states (stateGround countLimit (rowTable states rows)) m (kindNumber k′)
         same m k′ h =
             let a : q ≡ m = cc in
             let b : k ≡ k′ = cc in
-            rw (← a, ← b) (lt, x .fine, e)
+            rw (← a, ← b) (record { inside = lt; before = x .fine; here = e })
 
     module _ (low : s .count ≤ countLimit) (short : s .longest ≤ 4096) where
       exact : s .count ≡ count (rowTable states rows) q

@@ -14,6 +14,7 @@ use Rattle.model.specs.Check.{countLimit, stateGround}
 use Rattle.counts.specs.declared.Counted.{Counted}
 use Rattle.counts.specs.declared.StateFault.{StateFault}
 use Rattle.counts.specs.declared.StateFault.the-variants.{At, Nothing}
+use Rattle.chains.specs.First.{AllFine, FirstAt}
 use Rattle.rows.specs.Laid.{Laid}
 use Rattle.counts.specs.Chain.{target, InOrder, Chained}
 
@@ -53,14 +54,13 @@ pub record Known (states : ℕ) (rows : List ℕ) (q : ℕ) (cs ls sums : List �
   pub sums-long : length sums ≡ 1024
   pub counts : (a : ℕ) → a < q → held cs a ≡ count (rowTable states rows) a
   pub longests : (a : ℕ) → a < q → held ls a ≡ longest (rowTable states rows) a
-  pub fine : (a : ℕ) → a < q → stateGround countLimit (rowTable states rows) a ≡ 0
+  pub fine : AllFine q (stateGround countLimit (rowTable states rows))
   pub earlier : (k : ℕ) → k < howManyRows rows → target rows k < q → getD sums k 0 ≡ earlierRows (rowsOf rows) (count (rowTable states rows)) (target rows k) k
 
 -- all states are counted, or the first faulty one is found
 pub record CountedStates (states : ℕ) (rows : List ℕ) (cs ls sums : List ℕ) (r : StateFault) : Type 0 where
   pub all : r ≡ Nothing → Known states rows states cs ls sums
-  pub fault : (q : ℕ) (k : Kind) → r ≡ At q k
-      → (q < states) × ((a : ℕ) → a < q → stateGround countLimit (rowTable states rows) a ≡ 0) × (stateGround countLimit (rowTable states rows) q ≡ kindNumber k)
+  pub fault : (q : ℕ) (k : Kind) → r ≡ At q k → FirstAt states (stateGround countLimit (rowTable states rows)) q (kindNumber k)
 
 -- what the states are counted from: rows that stand at their offsets, in order, chained by target
 pub record Given (states : ℕ) (rows offsets first after : List ℕ) : Type 0 where
@@ -78,6 +78,7 @@ pub record Countable (rows offsets first after cs ls sums : List ℕ) (q : ℕ) 
   pub counted : (r : ℕ) → r < howManyRows rows → target rows r ≡ q → Within countLimit cs (rowNumbered rows r .args)
   pub measured : (r : ℕ) → r < howManyRows rows → target rows r ≡ q → Within 4096 ls (rowNumbered rows r .args)
 
+-- what counting the states in turn starts from
 pub record Ready (states : ℕ) (rows offsets first after cs ls sums : List ℕ) : Type 0 where
   pub given : Given states rows offsets first after
   pub cs-long : length cs ≡ 256

@@ -1,6 +1,6 @@
 -- Laws of choosing: by a test, by the first that is faulty, and of some number below another having a property.
 use Prim.Native.Nat.{ℕ, zero, suc, _+_, _<_, _≤_}
-use mathlib.Core.Path.{_≡_, refl, sym, _∙_}
+use mathlib.Core.Path.{_≡_, refl, sym, ap, _∙_}
 use mathlib.Core.Bool.{Bool, true, false, _&&_, _||_}
 use mathlib.Core.Logic.{_⊎_, inl, inr}
 use native.Mathlib.Omega.{arith}
@@ -43,10 +43,6 @@ or-false false b e = (refl, e)
 
 pub or-none : (a b : Bool) → a ≡ false → b ≡ false → (a || b) ≡ false
 or-none a b e f = rw (e, f)
-
-pub or-true : (a b : Bool) → (a || b) ≡ true → (a ≡ true) ⊎ (b ≡ true)
-or-true true b e = inl refl
-or-true false b e = inr e
 
 pub or-left : (a b : Bool) → a ≡ true → (a || b) ≡ true
 or-left a b e = rw e
@@ -94,6 +90,10 @@ first-fault (suc n) i g o l h p = go (eq-or-lt-of-le (le-of-suc-le-suc l)) (λ m
     go : (i ≡ n) ⊎ (i < n) → (i < n → firstFaulty n g (refuseOn (g n) n o) ≡ refused (g i) i) → firstFaulty n g (refuseOn (g n) n o) ≡ refused (g i) i
     go (inl e) ih = rw (← e) (no-fault i g (refuseOn (g i) i o) h ∙ refuse-some (g i) i o p)
     go (inr m) ih = ih m
+
+-- by its ground, where that is known
+pub fault-refused : (n i k : ℕ) (g : ℕ → ℕ) (o : Outcome) → i < n → ((j : ℕ) → j < i → g j ≡ 0) → g i ≡ k → 0 < k → refused k i ≡ firstFaulty n g o
+fault-refused n i k g o l h e p = ap (λ (v : ℕ). refused v i) (sym e) ∙ sym (first-fault n i g o l h (rw e p))
 
 -- no ground below i and none at i: none below i + 1
 pub none-more : (i : ℕ) (g : ℕ → ℕ) → ((j : ℕ) → j < i → g j ≡ 0) → g i ≡ 0 → (j : ℕ) → j < i + 1 → g j ≡ 0

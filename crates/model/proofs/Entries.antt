@@ -398,7 +398,7 @@ open-falls depth (e ∷ es) = go (eqb e 0) (open-falls (next depth e) es)
     go true h = omega arith
     go false h = omega arith
 
-open-append : (depth : ℕ) (xs ys : List ℕ) → openAfter depth (xs ++ ys) ≡ openAfter (openAfter depth xs) ys
+pub open-append : (depth : ℕ) (xs ys : List ℕ) → openAfter depth (xs ++ ys) ≡ openAfter (openAfter depth xs) ys
 unfolding openAfter
 open-append depth [] ys = refl
 open-append depth (x ∷ xs) ys = open-append (next depth x) xs ys

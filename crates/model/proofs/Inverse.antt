@@ -155,6 +155,18 @@ lent-all o n written old e = rw e
 lent-front : (o : Outcome) (n : ℕ) (written old : List ℕ) → o ≡ result n → n ≡ length written → take n (lentAfter o written old) ≡ written
 lent-front o n written old e l = ap (take n) (lent-all o n written old e) ∙ take-at written (drop (length written) old) n (sym l)
 
+-- what one operation writes at the front, the other takes, and it gives back the list that was taken first
+there-and-back : (outcome : List ℕ → ℕ → Outcome) (back : List ℕ → List ℕ) (o : Outcome) (n : ℕ) (first written old lent : List ℕ)
+    → o ≡ result n → n ≡ length written → back written ≡ first → outcome written (length lent) ≡ result (length (back written))
+    → (outcome (take n (lentAfter o written old)) (length lent) ≡ result (length first))
+    × (lentAfter (outcome (take n (lentAfter o written old)) (length lent)) (back (take n (lentAfter o written old))) lent ≡ first ++ drop (length first) lent)
+there-and-back outcome back o n first written old lent e l same r =
+    subst (λ (x : List ℕ). (outcome x (length lent) ≡ result (length first)) × (lentAfter (outcome x (length lent)) (back x) lent ≡ first ++ drop (length first) lent))
+    (sym (lent-front o n written old e l)) (
+      r ∙ ap (λ (x : List ℕ). result (length x)) same,
+      lent-all (outcome written (length lent)) _ (back written) lent r ∙ ap (λ (x : List ℕ). x ++ drop (length x) lent) same,
+    )
+
 -- ---- a written tree is read
 
 module _ (names tree : List ℕ) (w : Writable names tree) where
@@ -202,14 +214,9 @@ pub written-reads : WrittenReads
 unfolding writeTermList readTermList
 written-reads names tree text n e lent l =
     let p = write-back names tree (length text) n e in
-    let bytes = bytesOf names tree in
     let same = written-entries names tree (p .0) in
-    let r = read-taken names bytes (length lent) (written-read names tree (p .0)) (rw same l) in
-    subst (λ (x : List ℕ). (readTermOutcome names x (length lent) ≡ result (length tree)) × (readTermList names x lent ≡ tree ++ drop (length tree) lent))
-    (sym (lent-front (writeTermOutcome names tree (length text)) n bytes text e (p .1))) (
-      r ∙ ap (λ (x : List ℕ). result (length x)) same,
-      lent-all (readTermOutcome names bytes (length lent)) _ (entriesOf names bytes) lent r ∙ ap (λ (x : List ℕ). x ++ drop (length x) lent) same,
-    )
+    there-and-back (readTermOutcome names) (entriesOf names) (writeTermOutcome names tree (length text)) n tree (bytesOf names tree) text lent e (p .1) same
+    (read-taken names (bytesOf names tree) (length lent) (written-read names tree (p .0)) (rw same l))
 
 -- ---- a read term is written
 
@@ -246,11 +253,6 @@ pub read-writes : ReadWrites
 unfolding writeTermList readTermList
 read-writes names text tree n e lent l =
     let p = read-back names text (length tree) n e in
-    let entries = entriesOf names text in
     let same = read-bytes names text (p .0) in
-    let w = write-taken names entries (length lent) (read-written names text (p .0)) (rw same l) in
-    subst (λ (x : List ℕ). (writeTermOutcome names x (length lent) ≡ result (length text)) × (writeTermList names x lent ≡ text ++ drop (length text) lent))
-    (sym (lent-front (readTermOutcome names text (length tree)) n entries tree e (p .1))) (
-      w ∙ ap (λ (x : List ℕ). result (length x)) same,
-      lent-all (writeTermOutcome names entries (length lent)) _ (bytesOf names entries) lent w ∙ ap (λ (x : List ℕ). x ++ drop (length x) lent) same,
-    )
+    there-and-back (writeTermOutcome names) (bytesOf names) (readTermOutcome names text (length tree)) n text (entriesOf names text) tree lent e (p .1) same
+    (write-taken names (entriesOf names text) (length lent) (read-written names text (p .0)) (rw same l))

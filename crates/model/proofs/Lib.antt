@@ -2,6 +2,7 @@
 pub mod Numbers
 pub mod Choice
 pub mod Lists
+pub mod Writing
 pub mod Good
 pub mod Counting
 pub mod Rows

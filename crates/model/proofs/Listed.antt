@@ -2,7 +2,7 @@
 -- symbols that have names, and how long the text of a tree is.
 use Prim.Native.Nat.{ℕ, zero, suc, _+_, _*_, _≤_, _<_, suc-le-suc}
 use mathlib.Core.Path.{_≡_, refl, ap, sym, subst, _∙_}
-use mathlib.Core.Bool.{Bool, true, false, not, _&&_, and-assoc}
+use mathlib.Core.Bool.{Bool, true, false, not, _&&_, and-assoc, and-true as and-yes}
 use mathlib.Core.List.{List, [], _∷_, _++_, append-assoc, append-nil}
 use native.Mathlib.Omega.{arith}
 use native.Mathlib.Nat.{not-suc-le-zero, le-of-suc-le-suc}
@@ -28,10 +28,6 @@ brackets-stop (term n inner right) ys h = open-no-byte
 comma-stop : (f : Terms) (ys : List ℕ) → NoByte ys → NoByte (following f ++ ys)
 comma-stop none ys h = h
 comma-stop (term n inner right) ys h = comma-no-byte
-
-and-yes : (a : Bool) → (a && true) ≡ a
-and-yes true = refl
-and-yes false = refl
 
 -- a run begins at byte i, where the byte before the bytes is a name byte or not
 abbrev begins : (inside : Bool) → List ℕ → ℕ → Bool

@@ -1,7 +1,7 @@
 -- Laws of lists walked in a loop: what is left from an entry on, and two lists compared. Assumes nothing.
 use Prim.Native.Nat.{ℕ, suc, _+_, _<_, _≤_}
 use mathlib.Core.Path.{_≡_, refl, ap}
-use mathlib.Core.Bool.{Bool, true, false, _&&_}
+use mathlib.Core.Bool.{true, false, _&&_, and-false}
 use mathlib.Core.List.{List, [], _∷_}
 use native.Mathlib.Numerals.{add-one}
 use lib.ListN.{length, getD, drop, drop-of-length-le}
@@ -27,8 +27,4 @@ unfolding sameList
 same-length [] [] ne = absurd (ne refl)
 same-length [] (y ∷ ys) ne = refl
 same-length (x ∷ xs) [] ne = refl
-same-length (x ∷ xs) (y ∷ ys) ne = rw (same-length xs ys (λ e. ne (ap suc e))) (and-false (eqb x y))
-  where
-    and-false : (t : Bool) → t && false ≡ false
-    and-false true = refl
-    and-false false = refl
+same-length (x ∷ xs) (y ∷ ys) ne = rw (same-length xs ys (λ e. ne (ap suc e)), and-false)

@@ -466,9 +466,6 @@ term-from text w = ap termFrom (sym (w .written)) ∙ term-of (w .is) (w .names)
 pub term-text : (text : List ℕ) → IsTerm text → textOf (termFrom text) ≡ text
 term-text text w = ap textOf (term-from text w) ∙ w .written
 
-pub term-names : (text : List ℕ) → IsTerm text → AllNames (alone (termFrom text))
-term-names text w = rw (term-from text w) (w .names)
-
 -- refusal 19: a term is not refused, and behind it a result is of a term
 pub term-or-taken : (text : List ℕ) → IsTerm text → (o : Outcome) → termOr text o ≡ o
 unfolding termOr

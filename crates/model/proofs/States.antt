@@ -60,13 +60,6 @@ pub rowWith-inside : {rows : List Row} {i s q : ℕ} {xs : List ℕ} → IsRow r
 rowWith-inside {rows} {i} {s} {xs} w =
     omega (arith, w .inside, rowWith-first rows s xs i (rowIs-yes (getD rows i noRow) s xs (row-symbol w) (row-args w)))
 
--- the search ends inside just where there is such a row
-pub rowWith-exactly : (rows : List Row) (s : ℕ) (xs : List ℕ) → (rowWith rows s xs < length rows) ↔ ((i : ℕ) × (q : ℕ) × IsRow rows i s q xs)
-rowWith-exactly rows s xs = (
-  λ l. (rowWith rows s xs, getD rows (rowWith rows s xs) noRow .target, rowWith-row rows s xs noRow l),
-  λ p. rowWith-inside (p .2),
-)
-
 -- where no row is repeated it ends at the row
 pub rowWith-is : {rows : List Row} {i s q : ℕ} {xs : List ℕ} → Distinct rows → IsRow rows i s q xs → rowWith rows s xs ≡ i
 rowWith-is {rows} {i} {s} {q} {xs} d w = same-row d (rowWith-row rows s xs noRow (rowWith-inside w)) w refl

@@ -13,7 +13,7 @@ use borrow.Author.Tests.{ltb-true, ltb-false, lt-ltb, le-ltb}
 use Rattle.model.specs.Choice.{if_then_else_}
 use Rattle.model.specs.Table.{Row, Table, IsRow, noRow}
 use Rattle.model.specs.Tree.{Forest, Tree, empty, node, only}
-use Rattle.model.specs.Reach.{Reach, none, row, Reaches, rowWith, targetOf, statesOf, rowOf}
+use Rattle.model.specs.Reach.{Reach, none, row, Reaches, rowWith, rowOf}
 use Rattle.model.specs.Count.{sum, product, rowCounts, weight, stateCounts, Counts}
 use Rattle.model.specs.Value.{horner, earlierRows, rowValue, valuesOf, valueOf, Picked, findBy, childrenFrom, treeIn}
 use Rattle.model.specs.Order.{Earlier}
@@ -99,23 +99,6 @@ find-none (w ∷ ws) h l =
     rw (le-ltb h w (omega arith), find-none ws (h - w) (omega arith)) (λ j. record { which = suc (length ws); rest = e j })
 
 -- ---- the definitions, one step at a time
-
-pub states-node : (T : Table) (s : ℕ) (k r : Forest) → statesOf T (node s k r) ≡ targetOf T (rowOf T s k) ∷ statesOf T r
-unfolding statesOf
-states-node T s k r = refl
-
-pub values-node : (T : Table) (c : ℕ → ℕ) (s : ℕ) (k r : Forest) → valuesOf T c (node s k r) ≡ rowValue T c (rowOf T s k) (valuesOf T c k) ∷ valuesOf T c r
-unfolding valuesOf
-values-node T c s k r = refl
-
-pub row-value : (T : Table) (c : ℕ → ℕ) (i : ℕ) (vs : List ℕ)
-    → rowValue T c i vs ≡ horner c 0 (getD (T .rows) i noRow .args) vs + sum (take i (map (weight c (targetOf T i)) (T .rows)))
-unfolding rowValue earlierRows
-row-value T c i vs = refl
-
-pub horner-next : (c : ℕ → ℕ) (h x : ℕ) (xs : List ℕ) (v : ℕ) (vs : List ℕ) → horner c h (x ∷ xs) (v ∷ vs) ≡ horner c (h * c x + v) xs vs
-unfolding horner
-horner-next c h x xs v vs = refl
 
 pub children-none : (c : ℕ → ℕ) (below : ℕ → ℕ → Tree) (w h : ℕ) → childrenFrom c below [] w h ≡ empty
 unfolding childrenFrom
@@ -207,17 +190,6 @@ depth-free rows o c (suc d) (suc e) q h l m =
     let k = children-same c (treeIn rows c d) (treeIn rows c e) q (λ a v la. depth-free rows o c d e a v (omega arith) (omega arith)) (r .args) (found-args rows o c q h)
     (rowCounts c r) (p .rest) in
     λ j. record { symbol = r .symbol; children = k j }
-
--- so the tree of a value is the row that is found, with the trees of the children's values
-pub tree-in : (rows : List Row) → Ordered rows → (c : ℕ → ℕ) (d q h : ℕ) → q < d
-    → treeIn rows c d q h
-    ≡ record {
-      symbol = getD rows (findBy (map (weight c q) rows) h .which) noRow .symbol;
-      children = childrenFrom c (treeIn rows c q) (getD rows (findBy (map (weight c q) rows) h .which) noRow .args)
-          (rowCounts c (getD rows (findBy (map (weight c q) rows) h .which) noRow)) (findBy (map (weight c q) rows) h .rest);
-    }
-unfolding treeIn
-tree-in rows o c d q h l = depth-free rows o c d (suc q) q h l (omega arith)
 
 -- ---- children: "for each child divide w by the child's count"
 

@@ -4,6 +4,7 @@ use mathlib.Core.List.{List, _++_}
 use lib.ListN.{length, drop}
 use Rattle.model.specs.declared.Kind.{Kind}
 use Rattle.model.specs.declared.Kind.the-variants.{TooManyStates, CutRow, TooManyRowsOrArguments, NotInRange, ArgumentNotBelowTarget, RepeatedRow, AcceptingEntry, AcceptingTooLong, CountAboveLimit, LongestTreeAboveLimit, TotalAboveLimit, TreeTooLong, NotATree, NotAccepted, NumberNotBelowTotal, ShortTreeList, FaultyNames, TextTooLong, NotATerm, UnlistedName, TermTreeTooLong, ShortTermTree, UnnamedSymbol, ShortTextList}
+use Rattle.model.specs.declared.Refusal.{Refusal}
 use Rattle.model.specs.declared.Answer.{Answer}
 use Rattle.model.specs.declared.Answer.the-variants.{Result, Refused}
 
@@ -63,10 +64,13 @@ kindNumber UnnamedSymbol = 23
 -- "A short lent list is 24, with the bytes needed."
 kindNumber ShortTextList = 24
 
--- what an answer of the code says, in document 01's numbers: promises are stated by outcomes
+-- what a refusal, and an answer, of the code says in document 01's numbers: promises are stated by outcomes
+abbrev pub refusedBy : Refusal → Outcome
+refusedBy r = refused (kindNumber (r .kind)) (r .place)
+
 abbrev pub outcome : Answer → Outcome
 outcome (Result n) = result n
-outcome (Refused r) = refused (kindNumber (r .kind)) (r .place)
+outcome (Refused r) = refusedBy r
 
 -- "written at the front; later entries stay"; "written at the front; later bytes stay"; "A refusal writes to no lent list." A result n is
 -- the length of what is written (for terms the laws `read-exactly` and `write-exactly`, for trees `write-tree-back`)

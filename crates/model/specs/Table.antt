@@ -73,7 +73,7 @@ acceptingStates accepting = accepting
 abbrev pub tableOf : (states : ℕ) (rows accepting : List ℕ) → Table
 tableOf states rows accepting = record { states = states; rows = rowsOf rows; accepting = acceptingStates accepting }
 
--- two argument lists are equal
+-- two lists are equal, entry by entry
 unfoldable pub sameList : List ℕ → List ℕ → Bool
 sameList [] [] = true
 sameList [] (y ∷ ys) = false

@@ -1,6 +1,6 @@
 // The answers of every operation: a result, or a refusal with its kind and place.
 ghost use mathlib.Core.Path.{_≡_};
-ghost use Rattle.model.specs.Answers.{kindNumber};
+ghost use Rattle.model.specs.Answers.{refused, kindNumber, refusedBy};
 
 // The refusals of document 01, in the order of their numbers.
 pub enum Kind {
@@ -43,6 +43,16 @@ pub struct Refusal {
 pub enum Answer {
     Result(u64),
     Refused(Refusal),
+}
+
+// A refusal: of which kind, and where.
+pub fn refuse(kind: Kind, place: u64) -> Refusal
+    ensures { λ r. ⌜ refusedBy r ≡ refused (kindNumber kind) place ⌝ }
+{
+    Refusal {
+        place: place,
+        kind: kind,
+    }
 }
 
 // Document 01's number of a kind of refusal.

@@ -1,7 +1,7 @@
 -- The lines of a names list, taken one after another. Assumes nothing.
 use Prim.Native.Nat.{ℕ, suc, _+_, _-_, _*_, _<_, _≤_}
 use mathlib.Core.Path.{_≡_, refl, sym, ap, _∙_}
-use mathlib.Core.Bool.{Bool, true, false, _&&_, _||_, not, and-false, or-true}
+use mathlib.Core.Bool.{Bool, true, false, _&&_, _||_, not, and-true as and-yes, and-false, or-true}
 use mathlib.Core.List.{List, [], _∷_, _++_, append-assoc, append-nil, head-eq-of-cons-eq, tail-eq-of-cons-eq}
 use native.Mathlib.Omega.{arith}
 use native.Mathlib.Nat.{pos-of-ne-zero}
@@ -13,7 +13,7 @@ use Rattle.model.specs.Answers.{Outcome, refused}
 use Rattle.model.specs.Choice.{if_then_else_, anyBelow}
 use Rattle.model.specs.Names.{isLetter, isNameByte, allNameBytes, isName, sameName, Line, joined, linesOf, noLine, lineAt, howManyNames, lineWith, symbolOf, isListed, lineGround, namesOr}
 use Rattle.model.specs.Term.{run}
-use Rattle.model.proofs.Choice.{and-true, no-fault, first-fault, none-more, any-none, any-true, is-false, not-both}
+use Rattle.model.proofs.Choice.{and-true, no-fault, fault-refused, none-more, any-none, any-true, is-false, not-both}
 use Rattle.model.proofs.Bytes.{letter-byte, byte-not-ten, end-no-byte, name-bytes, IsName, name-parts, name-made, byte-first, byte-others}
 use Rattle.model.proofs.Names.{same-refl, same-is, first-ended, some-lines, no-lines, line-first, line-none}
 use Rattle.chains.specs.Chains.{Clear}
@@ -24,10 +24,6 @@ use Rattle.model.proofs.Lists.{drop-next}
 use Rattle.names.proofs.Bytes.{run-more}
 use Rattle.names.specs.Listed.{nameEnd, nameFound, hashOf, bucketOf, Stands, Known, Started, Answered}
 use Rattle.names.specs.declared.Names.the-variants.{Faulty, Sound as NamesSound}
-
-and-true-is : (t : Bool) → (t && true) ≡ t
-and-true-is true = refl
-and-true-is false = refl
 
 too-long : (n : List ℕ) → isName n ≡ true → 24 < length n → ⊥
 too-long n e l = let p = name-parts n e in omega (arith, p .short, ap length (p .is))
@@ -137,7 +133,7 @@ module _ (names : List ℕ) (at end : ℕ) (l : end ≡ at + length (run (drop a
 
     ended-by : nameEnd names at ≡ (if isName (run (drop at names)) then At end else Nothing)
     unfolding nameEnd
-    ended-by = rw (line-is, and-true-is (isName (run (drop at names))), l)
+    ended-by = rw (line-is, and-yes, l)
 
     pub end-long : 24 < end - at → Nothing ≡ nameEnd names at
     end-long h =
@@ -210,7 +206,7 @@ module _ {names starts heads next : List ℕ} {n at : ℕ} (s : Sofar names star
   unfolding namesOr
   faulty g o =
       let none : eqb (length names) 0 ≡ false = ne-eqb (length names) 0 (λ e. omega arith) in
-      rw none (sym (rw g at (first-fault (howManyNames names) n (lineGround names) o some-left (s .sound) (omega (arith, g)))))
+      rw none (fault-refused (howManyNames names) n 17 (lineGround names) o some-left (s .sound) g (omega arith))
 
   ground : (a b c d : Bool) → not (isName (lineAt names n .bytes)) ≡ a → anyBelow n (λ j. sameName (lineAt names j .bytes) (lineAt names n .bytes)) ≡ b → leb 255 n ≡ c → not (lineAt names n .ended) ≡ d
       → lineGround names n ≡ (if a || b || c || d then 17 else 0)

@@ -24,7 +24,7 @@ nameEnd names at =
 abbrev pub nameFound : List ℕ → ℕ → List ℕ → Found
 nameFound names n name = firstWith (λ k. sameName (lineAt names k .bytes) name) n
 
--- the bucket of a name: the top 9 of the low 32 bits of a last product
+-- the bucket of a name, one of 512
 unfoldable pub hashOf : List ℕ → ℕ
 hashOf name = spread 8388608 (mixAll 0 name)
 

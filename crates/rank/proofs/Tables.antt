@@ -7,7 +7,7 @@ use native.Mathlib.Omega.{arith}
 use lib.ListN.{length, getD}
 use lib.Dec.{ltb}
 use borrow.Author.Tests.{lt-ltb, ltb-true}
-use Rattle.model.specs.Answers.{Outcome, result, refused, kindNumber}
+use Rattle.model.specs.Answers.{Outcome, result, refusedBy}
 use Rattle.model.specs.declared.Refusal.{Refusal}
 use Rattle.model.specs.Table.{Table, noRow, IsRow, rowIs, rowsOf, tableOf, rowNumbered, howManyRows}
 use Rattle.model.specs.Tree.{Tree, WellFormed}
@@ -22,36 +22,28 @@ use Rattle.model.proofs.Good.{AllBelow, below-first, below-rest, Good, Within}
 use Rattle.model.proofs.Counting.{map-below, sum-place, weight-at, count-eqn, total-is}
 use Rattle.model.proofs.Rows.{rowsOf-length, rowsOf-at, rowIs-true, rowIs-yes}
 use Rattle.model.proofs.Reaching.{row-symbol, row-args}
-use Rattle.model.proofs.Checked.{passes-just, checked-good, checked-within}
+use Rattle.model.proofs.Demand3.{passing-good, passing-within}
 use Rattle.model.proofs.States.{rowWith-row, rowWith-is, target-is, target-inside, args-states}
 use Rattle.model.proofs.Longest.{row-fits}
-use Rattle.model.proofs.Entries.{tree-from, tree-or-back}
+use Rattle.model.proofs.Entries.{tree-from}
 use Rattle.chains.specs.declared.Found.{Found}
 use Rattle.chains.specs.declared.Found.the-variants.{At, Nothing}
 use Rattle.chains.proofs.First.{first-is, first-none}
 use Rattle.index.specs.Index.{rowFound}
 use Rattle.counts.specs.Chain.{target}
-use Rattle.counts.specs.States.{held, rowTable}
+use Rattle.counts.specs.States.{held}
+use Rattle.counts.proofs.All.{count-same, earlier-same}
 use Rattle.table.specs.declared.Checked.{Checked}
 use Rattle.table.specs.declared.Checked.the-variants.{Sound, Refuses}
 use Rattle.table.specs.Checked.{told, Prepared, CheckAnswer}
 use Rattle.tree.specs.declared.Form.{Form}
 use Rattle.tree.specs.declared.Form.the-variants.{Tree as FormTree, Refuses as RefusesList}
 use Rattle.tree.specs.Reading.{Decides}
+use Rattle.tree.proofs.Laws.{list-refused, list-taken, list-well}
 use Rattle.rank.specs.declared.Node.the-variants.{Reaches}
 use Rattle.rank.specs.Machine.{nodeBy, nodeOf, numbered, machine}
 use Rattle.rank.specs.Ready.{Ready}
 use Rattle.rank.proofs.Trees.{rowNode, rowNumber, node-yes, node-no, run-tree}
-
--- no count depends on the accepting list
-count-same : (states : ℕ) (rows accepting : List ℕ) (q : ℕ) → count (rowTable states rows) q ≡ count (tableOf states rows accepting) q
-unfolding count
-count-same states rows accepting q = refl
-
-earlier-same : (states : ℕ) (rows accepting : List ℕ) (q k : ℕ)
-    → earlierRows (rowsOf rows) (count (rowTable states rows)) q k ≡ earlierRows (rowsOf rows) (count (tableOf states rows accepting)) q k
-unfolding count
-earlier-same states rows accepting q k = refl
 
 -- Horner's way looks only at the counts of the states at hand
 horner-local : (c d : ℕ → ℕ) (n : ℕ) → ((a : ℕ) → a < n → c a ≡ d a) → (h : ℕ) (xs vs : List ℕ) → AllBelow n xs → horner c h xs vs ≡ horner d h xs vs
@@ -77,10 +69,10 @@ module _ (accepting : List ℕ) {states : ℕ} {rows offsets heads next first af
   T = tableOf states rows accepting
 
   good : Good T
-  good = checked-good countLimit states rows accepting (passes-just states rows accepting t .0 passes .0)
+  good = passing-good states rows accepting t passes
 
   fits : Within countLimit T
-  fits = checked-within countLimit states rows accepting (passes-just states rows accepting t .0 passes .0)
+  fits = passing-within states rows accepting t passes
 
   counted : (q : ℕ) → q < states → held cs q ≡ count T q
   counted q l = p .known .counts q l ∙ count-same states rows accepting q
@@ -153,28 +145,16 @@ module _ (accepting : List ℕ) {states : ℕ} {rows offsets heads next first af
 
 -- ---- the answers
 
-then-refused : (f : ℕ → Outcome) (k p : ℕ) (o : Outcome) → refused k p ≡ o → refused k p ≡ checkedThen o f
-then-refused f k p o e = ap (λ (x : Outcome). checkedThen x f) e
-
-then-result : (f : ℕ → Outcome) (t : ℕ) (o : Outcome) → result t ≡ o → f t ≡ checkedThen o f
-then-result f t o e = ap (λ (x : Outcome). checkedThen x f) e
-
--- 12 and 13, and that there is neither
-list-refused : {tree : List ℕ} {f : Form} → Decides tree f → (r : Refusal) → f ≡ RefusesList r → (o : Outcome) → refused (kindNumber (r .kind)) (r .place) ≡ treeOr tree o
-list-refused d r e o = rw e at (d .decided o)
-
-list-taken : {tree : List ℕ} {f : Form} → Decides tree f → f ≡ FormTree → (o : Outcome) → o ≡ treeOr tree o
-list-taken d e o = rw e at (d .decided o)
-
-pub tree-fits : {tree : List ℕ} {f : Form} → Decides tree f → f ≡ FormTree → WellFormed tree × (length tree ≤ 4096)
-tree-fits {tree} d e = let x = tree-or-back tree 0 (result 0) (sym (list-taken d e (result 0))) in (x .0, x .1)
+-- what follows, by what the check says
+then-same : (f : ℕ → Outcome) (o o′ : Outcome) → o ≡ o′ → checkedThen o f ≡ checkedThen o′ f
+then-same f o o′ e = ap (λ (x : Outcome). checkedThen x f) e
 
 module _ (accepting tree : List ℕ) {states : ℕ} {rows offsets heads next first after cs ls sums : List ℕ} {k : Checked}
     (a : CheckAnswer states rows accepting offsets heads next first after cs ls sums k) where
   -- 1 to 11
-  pub table-refused : (r : Refusal) → k ≡ Refuses r → refused (kindNumber (r .kind)) (r .place) ≡ numberOutcome states rows accepting tree
+  pub table-refused : (r : Refusal) → k ≡ Refuses r → refusedBy r ≡ numberOutcome states rows accepting tree
   unfolding numberOutcome
-  table-refused r e = then-refused _ (kindNumber (r .kind)) (r .place) (checkOutcome states rows accepting) (sym (ap told e) ∙ a .answer)
+  table-refused r e = then-same _ (refusedBy r) (checkOutcome states rows accepting) (sym (ap told e) ∙ a .answer)
 
   module _ (t n : ℕ) (e : k ≡ Sound t n) where
     passes : Passes states rows accepting t
@@ -183,14 +163,14 @@ module _ (accepting tree : List ℕ) {states : ℕ} {rows offsets heads next fir
     pub number-ready : Ready rows accepting offsets heads next cs sums n
     number-ready = ready accepting (a .prepared t n e) passes
 
-    pub tree-refused : {f : Form} → Decides tree f → (r : Refusal) → f ≡ RefusesList r → refused (kindNumber (r .kind)) (r .place) ≡ numberOutcome states rows accepting tree
+    pub tree-refused : {f : Form} → Decides tree f → (r : Refusal) → f ≡ RefusesList r → refusedBy r ≡ numberOutcome states rows accepting tree
     unfolding numberOutcome
-    tree-refused d r h = list-refused d r h _ ∙ then-result _ t (checkOutcome states rows accepting) (sym passes)
+    tree-refused d r h = list-refused d r h _ ∙ then-same _ (result t) (checkOutcome states rows accepting) (sym passes)
 
     pub tree-numbered : {f : Form} → Decides tree f → f ≡ FormTree → machine rows n accepting cs sums tree ≡ numberOutcome states rows accepting tree
     unfolding numberOutcome
     tree-numbered d h =
-        machine-numbers accepting (a .prepared t n e) passes tree (tree-fits d h .0)
+        machine-numbers accepting (a .prepared t n e) passes tree (list-well d h .0)
         ∙ list-taken d h _
-        ∙ then-result (λ m. treeOr tree (acceptedOr (tableOf states rows accepting) (treeFrom tree) (result (numberOf (tableOf states rows accepting) (count (tableOf states rows accepting)) (treeFrom tree))))) t
+        ∙ then-same (λ m. treeOr tree (acceptedOr (tableOf states rows accepting) (treeFrom tree) (result (numberOf (tableOf states rows accepting) (count (tableOf states rows accepting)) (treeFrom tree))))) (result t)
         (checkOutcome states rows accepting) (sym passes)

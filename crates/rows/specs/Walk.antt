@@ -9,6 +9,7 @@ use Rattle.model.specs.Answers.{kindNumber}
 use Rattle.model.specs.Choice.{if_then_else_}
 use Rattle.model.specs.Table.{rowAt, rowStart, countAt}
 use Rattle.model.specs.Check.{cut, tooMany, outOfRange, notBelow}
+use Rattle.chains.specs.First.{AllFine}
 use Rattle.rows.specs.declared.RowStep.{RowStep}
 use Rattle.rows.specs.declared.RowStep.the-variants.{Next, Faulty}
 use Rattle.rows.specs.declared.Walked.{Walked}
@@ -42,6 +43,6 @@ passed (Stopped n k) = n
 pub record Walk (states : ℕ) (rows offsets : List ℕ) (r : Walked) : Type 0 where
   pub laid : Laid rows offsets (passed r)
   pub begun : (i : ℕ) → i < passed r → rowStart rows i < length rows
-  pub fine : (i : ℕ) → i < passed r → formGround states rows i ≡ 0
+  pub fine : AllFine (passed r) (formGround states rows)
   pub end : (n : ℕ) → r ≡ Passed n → length rows ≤ rowStart rows n
   pub stop : (n : ℕ) (k : Kind) → r ≡ Stopped n k → (rowStart rows n < length rows) × (formGround states rows n ≡ kindNumber k)

@@ -1,7 +1,7 @@
 -- Laws of the accepting list's check. Assumes nothing.
 use Prim.Native.Nat.{ℕ, _+_, _<_, _≤_}
 use mathlib.Core.Path.{_≡_, refl, sym, ap, _∙_}
-use mathlib.Core.Bool.{Bool, true, false, not, _||_}
+use mathlib.Core.Bool.{Bool, true, false, not, _||_, or-false}
 use mathlib.Core.List.{List}
 use native.Mathlib.Omega.{arith}
 use native.Mathlib.Numerals.{add-one}
@@ -14,7 +14,8 @@ use Rattle.model.specs.Choice.{if_then_else_, anyBelow}
 use Rattle.model.specs.Check.{acceptingGround}
 use Rattle.model.proofs.Choice.{or-right}
 use Rattle.chains.specs.declared.Found.the-variants.{At, Nothing}
-use Rattle.table.specs.Checked.{AllFine, FirstAt, EntriesChecked}
+use Rattle.chains.specs.First.{AllFine, FirstAt}
+use Rattle.table.specs.Checked.{EntriesChecked}
 
 -- some entry before entry i is q
 abbrev pub listed : List ℕ → ℕ → ℕ → Bool
@@ -43,10 +44,6 @@ unmarked false e = refl
 marked : (b : Bool) → (_≡_ {A = ℕ} (if b then 1 else 0) 0 → ⊥) → b ≡ true
 marked true ne = refl
 marked false ne = absurd (ne refl)
-
-false-or : (b t : Bool) → t ≡ false → (b || t) ≡ b
-false-or true t e = refl
-false-or false t e = e
 
 module _ {states : ℕ} {accepting seen : List ℕ} {i : ℕ} (x : Seeing states accepting seen i) (few : states ≤ 256) (lt : i < length accepting) (a : ℕ) (is : a ≡ getD accepting i 0) where
   entry-found : acceptingGround states accepting i ≡ 7 → EntriesChecked states accepting (At i)
@@ -88,7 +85,7 @@ module _ {states : ℕ} {accepting seen : List ℕ} {i : ℕ} (x : Seeing states
       mark-more q ql false e =
           let ne = eqb-false q a e in
           let m : listed accepting (i + 1) q ≡ listed accepting i q =
-          listed-more accepting i q ∙ false-or (listed accepting i q) _ (ne-eqb _ _ (λ h. ne (sym h ∙ sym is))) in
+          listed-more accepting i q ∙ ap (λ (t : Bool). listed accepting i q || t) (ne-eqb _ _ (λ h. ne (sym h ∙ sym is))) ∙ or-false (listed accepting i q) in
           rw m (getD-set-other seen a q 1 0 ne ∙ x .marks q ql)
 
       pub seeing-goes : Seeing states accepting (set seen a 1) (i + 1)

@@ -1,29 +1,31 @@
 -- Laws of the check's outcome, part by part. Assumes nothing.
 use Prim.Native.Nat.{ℕ, _<_, _≤_, min}
-use mathlib.Core.Path.{_≡_, refl, sym, ap, _∙_}
+use mathlib.Core.Path.{_≡_, sym, ap, _∙_}
 use mathlib.Core.List.{List, map}
 use native.Mathlib.Omega.{arith}
 use lib.ListN.{length, getD}
 use lib.Dec.{ltb}
 use borrow.Author.Tests.{lt-ltb, le-ltb}
 use Rattle.model.specs.declared.Kind.{Kind}
-use Rattle.model.specs.declared.Kind.the-variants.{TotalAboveLimit}
-use Rattle.model.specs.Answers.{Outcome, result, refused, kindNumber}
+use Rattle.model.specs.declared.Refusal.{Refusal}
+use Rattle.model.specs.Answers.{Outcome, result, refused, kindNumber, refusedBy}
 use Rattle.model.specs.Choice.{if_then_else_, firstFaulty}
 use Rattle.model.specs.Table.{rowStart, howManyRows, tableOf}
-use Rattle.model.specs.Count.{sum, count, longest, total}
+use Rattle.model.specs.Count.{sum, count, total}
 use Rattle.model.specs.Check.{rowGround, acceptingGround, stateGround, checkWithin, checkOutcome, countLimit}
-use Rattle.model.proofs.Choice.{no-fault, first-fault}
+use Rattle.model.proofs.Choice.{no-fault, fault-refused}
 use Rattle.model.proofs.Counting.{map-agree}
 use Rattle.model.proofs.Rows.{args-length}
 use Rattle.model.proofs.Checked.{row-good, entry-good, state-good}
+use Rattle.chains.specs.First.{AllFine, FirstAt}
 use Rattle.rows.specs.Laid.{Laid}
 use Rattle.index.specs.Index.{Index}
 use Rattle.counts.specs.Chain.{InOrder, Chained}
 use Rattle.counts.specs.States.{ceiling, held, Within, rowTable, Known}
+use Rattle.counts.proofs.All.{ground-same}
 use Rattle.table.specs.declared.Checked.{Checked}
-use Rattle.table.specs.declared.Checked.the-variants.{Sound}
-use Rattle.table.specs.Checked.{AllFine, FirstAt, told, refusesAt, StatesReady, StatesAnswer, Prepared, CheckAnswer}
+use Rattle.table.specs.declared.Checked.the-variants.{Sound, Refuses}
+use Rattle.table.specs.Checked.{StatesReady, StatesAnswer, Prepared, CheckAnswer}
 use Rattle.model.proofs.Numbers.{kind-positive}
 
 -- rows without fault are in order
@@ -34,11 +36,6 @@ in-order states rows n few fine = record {
   known = λ r lt. row-good states rows r (fine r lt) .in-range .target-fits;
   lower = λ r lt. row-good states rows r (fine r lt) .ordered;
 }
-
--- no state's ground depends on the accepting list
-ground-same : (states : ℕ) (rows accepting : List ℕ) (q : ℕ) → stateGround countLimit (tableOf states rows accepting) q ≡ stateGround countLimit (rowTable states rows) q
-unfolding stateGround count longest
-ground-same states rows accepting q = refl
 
 -- the accepting states have counts within the limit
 pub entries-within : {states : ℕ} {rows accepting cs ls sums : List ℕ} → states ≤ 256 → AllFine (length accepting) (acceptingGround states accepting)
@@ -56,8 +53,8 @@ total-same : (states : ℕ) (rows accepting cs : List ℕ) → ((k : ℕ) → k 
 unfolding total count
 total-same states rows accepting cs e = ap sum (map-agree (held cs) (count (rowTable states rows)) 0 accepting e)
 
-not-sound : {A : Type 0} (k : Kind) (p t m : ℕ) (r : Checked) → r ≡ refusesAt k p → r ≡ Sound t m → A
-not-sound k p t m r e h = let z : _≡_ {A = ℕ} 0 1 = cc in absurd (omega arith)
+not-sound : {A : Type 0} (f : Refusal) (t m : ℕ) → Refuses f ≡ Sound t m → A
+not-sound f t m h = let z : _≡_ {A = ℕ} 0 1 = cc in absurd (omega arith)
 
 -- the check from the states on, and from the accepting list on
 unfoldable fromStates : (states : ℕ) (rows accepting : List ℕ) → Outcome
@@ -81,8 +78,7 @@ module _ (states : ℕ) (rows accepting : List ℕ) where
     pub row-refused : (i k : ℕ) → FirstAt (howManyRows rows) (rowGround states rows) i k → 0 < k → refused k i ≡ checkOutcome states rows accepting
     unfolding checkOutcome checkWithin
     row-refused i k f pos =
-        rw (le-ltb 256 states few) (ap (λ (v : ℕ). refused v i) (sym (f .here))
-        ∙ sym (first-fault (howManyRows rows) i (rowGround states rows) _ (f .inside) (f .before) (rw (f .here) pos)))
+        rw (le-ltb 256 states few) (fault-refused (howManyRows rows) i k (rowGround states rows) _ (f .inside) (f .before) (f .here) pos)
 
     module _ (rows-fine : AllFine (howManyRows rows) (rowGround states rows)) where
       from-entries : fromEntries states rows accepting ≡ checkOutcome states rows accepting
@@ -92,9 +88,7 @@ module _ (states : ℕ) (rows accepting : List ℕ) where
       -- 7
       entry-is : (i : ℕ) → FirstAt (length accepting) (acceptingGround states accepting) i 7 → refused 7 i ≡ fromEntries states rows accepting
       unfolding fromEntries
-      entry-is i f =
-          ap (λ (v : ℕ). refused v i) (sym (f .here))
-          ∙ sym (first-fault (length accepting) i (acceptingGround states accepting) _ (f .inside) (f .before) (rw (f .here) (omega arith)))
+      entry-is i f = fault-refused (length accepting) i 7 (acceptingGround states accepting) _ (f .inside) (f .before) (f .here) (omega arith)
 
       pub entry-refused : (i : ℕ) → FirstAt (length accepting) (acceptingGround states accepting) i 7 → refused 7 i ≡ checkOutcome states rows accepting
       entry-refused i f = entry-is i f ∙ from-entries
@@ -116,14 +110,12 @@ module _ (states : ℕ) (rows accepting : List ℕ) where
         from-states le = states-is le ∙ from-entries
 
 -- a faulty state: 9 or 10
-fault-is : (states : ℕ) (rows accepting : List ℕ) (q : ℕ) (k : Kind)
-    → (q < states) × ((a : ℕ) → a < q → stateGround countLimit (rowTable states rows) a ≡ 0) × (stateGround countLimit (rowTable states rows) q ≡ kindNumber k)
+fault-is : (states : ℕ) (rows accepting : List ℕ) (q : ℕ) (k : Kind) → FirstAt states (stateGround countLimit (rowTable states rows)) q (kindNumber k)
     → refused (kindNumber k) q ≡ fromStates states rows accepting
 unfolding fromStates
 fault-is states rows accepting q k f =
-    let g : stateGround countLimit (tableOf states rows accepting) q ≡ kindNumber k = ground-same states rows accepting q ∙ f .2 in
-    ap (λ (v : ℕ). refused v q) (sym g)
-    ∙ sym (first-fault states q (stateGround countLimit (tableOf states rows accepting)) _ (f .0) (λ j l. ground-same states rows accepting j ∙ f .1 j l) (rw g (kind-positive k)))
+    fault-refused states q (kindNumber k) (stateGround countLimit (tableOf states rows accepting)) _ (f .inside)
+    (λ j l. ground-same states rows accepting j ∙ f .before j l) (ground-same states rows accepting q ∙ f .here) (kind-positive k)
 
 -- no faulty state: the total decides
 module _ (states : ℕ) (rows accepting cs ls sums : List ℕ) (fine : AllFine (length accepting) (acceptingGround states accepting)) (x : Known states rows states cs ls sums)
@@ -150,23 +142,21 @@ module _ {states : ℕ} {rows accepting : List ℕ} {n : ℕ} {offsets first₀ 
   left : fromStates states rows accepting ≡ checkOutcome states rows accepting
   left = from-states states rows accepting (s .few) (rw (s .all) at (s .rows-fine)) (s .entries-fine) (s .listed-few)
 
-  states-refused : (first after cs ls sums : List ℕ) (k : Kind) (p : ℕ) (r : Checked) → r ≡ refusesAt k p → refused (kindNumber k) p ≡ fromStates states rows accepting
-      → StatesAnswer states rows accepting n first after cs ls sums r
-  states-refused first after cs ls sums k p r e h = record {
-    answer = ap told e ∙ h ∙ left;
-    rows-are = λ t m z. not-sound k p t m r e z;
-    chained = λ t m z. not-sound k p t m r e z;
-    known = λ t m z. not-sound k p t m r e z;
+  states-refused : {first after cs ls sums : List ℕ} (f : Refusal) → refusedBy f ≡ fromStates states rows accepting → StatesAnswer states rows accepting n first after cs ls sums (Refuses f)
+  states-refused f h = record {
+    answer = h ∙ left;
+    rows-are = λ t m z. not-sound f t m z;
+    chained = λ t m z. not-sound f t m z;
+    known = λ t m z. not-sound f t m z;
   }
 
-  pub states-fault : {first after cs ls sums : List ℕ} (q : ℕ) (k : Kind) (r : Checked) → r ≡ refusesAt k q
-      → (q < states) × ((a : ℕ) → a < q → stateGround countLimit (rowTable states rows) a ≡ 0) × (stateGround countLimit (rowTable states rows) q ≡ kindNumber k)
-      → StatesAnswer states rows accepting n first after cs ls sums r
-  states-fault q k r e f = states-refused _ _ _ _ _ k q r e (fault-is states rows accepting q k f)
+  pub states-fault : {first after cs ls sums : List ℕ} (q : ℕ) (k : Kind) (f : Refusal) → refusedBy f ≡ refused (kindNumber k) q
+      → FirstAt states (stateGround countLimit (rowTable states rows)) q (kindNumber k) → StatesAnswer states rows accepting n first after cs ls sums (Refuses f)
+  states-fault q k f e x = states-refused f (e ∙ fault-is states rows accepting q k x)
 
   module _ {cs ls sums : List ℕ} (x : Known states rows states cs ls sums) (t : ℕ) (e : t ≡ min (sum (map (held cs) accepting)) ceiling) where
-    pub states-over : {first after : List ℕ} (r : Checked) → countLimit < t → r ≡ refusesAt TotalAboveLimit 0 → StatesAnswer states rows accepting n first after cs ls sums r
-    states-over r gt h = states-refused _ _ _ _ _ TotalAboveLimit 0 r h (over-is states rows accepting cs ls sums (s .entries-fine) x t e gt)
+    pub states-over : {first after : List ℕ} (f : Refusal) → countLimit < t → refusedBy f ≡ refused 11 0 → StatesAnswer states rows accepting n first after cs ls sums (Refuses f)
+    states-over f gt h = states-refused f (h ∙ over-is states rows accepting cs ls sums (s .entries-fine) x t e gt)
 
     pub states-pass : {first after : List ℕ} → t ≤ countLimit → Chained rows 0 n first after → StatesAnswer states rows accepting n first after cs ls sums (Sound t n)
     states-pass le c = record {
@@ -178,9 +168,8 @@ module _ {states : ℕ} {rows accepting : List ℕ} {n : ℕ} {offsets first₀ 
 
 -- the answer of the whole check
 module _ {states : ℕ} {rows accepting offsets heads next first after counts longest′ sums : List ℕ} where
-  pub refused-answer : (k : Kind) (p : ℕ) (r : Checked) → r ≡ refusesAt k p → refused (kindNumber k) p ≡ checkOutcome states rows accepting
-      → CheckAnswer states rows accepting offsets heads next first after counts longest′ sums r
-  refused-answer k p r e h = record { answer = ap told e ∙ h; prepared = λ t m z. not-sound k p t m r e z }
+  pub refused-answer : (f : Refusal) → refusedBy f ≡ checkOutcome states rows accepting → CheckAnswer states rows accepting offsets heads next first after counts longest′ sums (Refuses f)
+  refused-answer f h = record { answer = h; prepared = λ t m z. not-sound f t m z }
 
   pub states-answer : (n : ℕ) (r : Checked) → n ≡ howManyRows rows → Laid rows offsets n → Index rows n heads next → StatesAnswer states rows accepting n first after counts longest′ sums r
       → CheckAnswer states rows accepting offsets heads next first after counts longest′ sums r

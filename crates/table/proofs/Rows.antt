@@ -26,7 +26,8 @@ use Rattle.rows.specs.declared.RowStep.the-variants.{Next, Faulty}
 use Rattle.rows.specs.Laid.{Laid}
 use Rattle.rows.specs.Walk.{rowStep, stepGround, formGround, passed, Walk}
 use Rattle.index.specs.Index.{Index, Answered}
-use Rattle.table.specs.Checked.{AllFine, FirstAt, RowsChecked}
+use Rattle.chains.specs.First.{AllFine, FirstAt}
+use Rattle.table.specs.Checked.{RowsChecked}
 
 -- the row's ground is that of its form, or else 6 where it repeats an earlier row
 formElse : (form : ℕ) → Bool → ℕ

@@ -1,15 +1,15 @@
 -- The check in its parts, and what a table that passes leaves for numbering and writing. Assumes nothing: these are definitions.
-use Prim.Native.Nat.{ℕ, _<_, _≤_}
+use Prim.Native.Nat.{ℕ, _≤_}
 use mathlib.Core.Path.{_≡_}
 use mathlib.Core.List.{List}
 use lib.ListN.{length}
 use Rattle.model.specs.declared.Kind.{Kind}
-use Rattle.model.specs.declared.Answer.the-variants.{Refused}
-use Rattle.model.specs.Answers.{Outcome, result, kindNumber, outcome}
+use Rattle.model.specs.Answers.{Outcome, result, kindNumber, refusedBy}
 use Rattle.model.specs.Table.{howManyRows}
 use Rattle.model.specs.Check.{rowGround, acceptingGround, checkOutcome}
 use Rattle.chains.specs.declared.Found.{Found}
 use Rattle.chains.specs.declared.Found.the-variants.{At, Nothing}
+use Rattle.chains.specs.First.{AllFine, FirstAt}
 use Rattle.chains.specs.Chains.{Clear}
 use Rattle.rows.specs.declared.Walked.{Walked}
 use Rattle.rows.specs.declared.Walked.the-variants.{Passed, Stopped}
@@ -19,16 +19,6 @@ use Rattle.counts.specs.Chain.{Chained, Unchained}
 use Rattle.counts.specs.States.{Known}
 use Rattle.table.specs.declared.Checked.{Checked}
 use Rattle.table.specs.declared.Checked.the-variants.{Sound, Refuses}
-
--- all of n things are without a ground
-abbrev pub AllFine : ℕ → (ℕ → ℕ) → Type 0
-AllFine n ground = (i : ℕ) → i < n → ground i ≡ 0
-
--- thing i is the first of n for which a ground holds, the one of this number
-pub record FirstAt (n : ℕ) (ground : ℕ → ℕ) (i number : ℕ) : Type 0 where
-  pub inside : i < n
-  pub before : AllFine i ground
-  pub here : ground i ≡ number
 
 -- the rows: none is faulty, and they stand at their offsets and in the index; or the first faulty one
 pub record RowsChecked (states : ℕ) (rows offsets heads next : List ℕ) (r : Walked) : Type 0 where
@@ -43,10 +33,7 @@ pub record EntriesChecked (states : ℕ) (accepting : List ℕ) (r : Found) : Ty
 -- what a checked answer says
 abbrev pub told : Checked → Outcome
 told (Sound t n) = result t
-told (Refuses r) = outcome (Refused r)
-
-abbrev pub refusesAt : Kind → ℕ → Checked
-refusesAt k place = Refuses (record { place = place; kind = k })
+told (Refuses r) = refusedBy r
 
 -- what checking the states starts from: none of the grounds 1 to 8 holds, and the arrays are not yet written
 pub record StatesReady (states : ℕ) (rows accepting : List ℕ) (n : ℕ) (offsets first after counts longest sums : List ℕ) : Type 0 where

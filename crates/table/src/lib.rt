@@ -4,6 +4,7 @@ use counts::StateFault;
 use model::Answer;
 use model::Kind;
 use model::Refusal;
+use model::refuse;
 use rows::Walked;
 ghost use mathlib.Core.Path.{_≡_};
 ghost use Prim.Native.Nat.{_≤_};
@@ -11,7 +12,7 @@ ghost use lib.ListN.{length};
 ghost use Rattle.model.specs.Answers.{outcome};
 ghost use Rattle.model.specs.Check.{checkOutcome};
 ghost use Rattle.chains.specs.Chains.{Clear};
-ghost use Rattle.table.specs.Checked.{EntriesChecked, RowsChecked, refusesAt, StatesReady, StatesAnswer, Blank, CheckAnswer};
+ghost use Rattle.table.specs.Checked.{EntriesChecked, RowsChecked, StatesReady, StatesAnswer, Blank, CheckAnswer};
 
 // What the internal check finds: the total and how many rows there are, or the refusal.
 pub enum Checked {
@@ -59,15 +60,6 @@ fn check_rows(
     }
 }
 
-fn refuses(kind: Kind, place: u64) -> Checked
-    ensures { λ r. ⌜ r ≡ refusesAt kind place ⌝ }
-{
-    Checked::Refuses(Refusal {
-        place: place,
-        kind: kind,
-    })
-}
-
 // The check from the states on, for rows and an accepting list that are without fault.
 fn check_states(
     states: usize,
@@ -95,11 +87,11 @@ fn check_states(
         longest,
         sums,
     ) {
-        StateFault::At(q, kind) => refuses(kind, q as u64),
+        StateFault::At(q, kind) => Checked::Refuses(refuse(kind, q as u64)),
         StateFault::Nothing => {
             let total = counts::sum_of(accepting, &*counts);
             if counts::LIMIT < total {
-                return refuses(Kind::TotalAboveLimit, 0);
+                return Checked::Refuses(refuse(Kind::TotalAboveLimit, 0));
             }
             Checked::Sound(total, n)
         }
@@ -124,15 +116,15 @@ pub fn check_into(
     ensures { λ r. ⌜ CheckAnswer states (now (rows .entry)) (now (accepting .entry)) (now (offsets .exit)) (now (heads .exit)) (now (next .exit)) (now (first .exit)) (now (after .exit)) (now (counts .exit)) (now (longest .exit)) (now (sums .exit)) r ⌝ }
 {
     if 256 < states {
-        return refuses(Kind::TooManyStates, 0);
+        return Checked::Refuses(refuse(Kind::TooManyStates, 0));
     }
     match check_rows(states, rows, offsets, heads, next) {
-        Walked::Stopped(r, kind) => refuses(kind, r as u64),
+        Walked::Stopped(r, kind) => Checked::Refuses(refuse(kind, r as u64)),
         Walked::Passed(n) => match faulty_entry(states, accepting) {
-            Found::At(i) => refuses(Kind::AcceptingEntry, i as u64),
+            Found::At(i) => Checked::Refuses(refuse(Kind::AcceptingEntry, i as u64)),
             Found::Nothing => {
                 if states < accepting.len() as u64 {
-                    return refuses(Kind::AcceptingTooLong, 0);
+                    return Checked::Refuses(refuse(Kind::AcceptingTooLong, 0));
                 }
                 check_states(
                     states as usize,

@@ -14,7 +14,8 @@ use Rattle.names.specs.Listed.{nameFound}
 use Rattle.term.specs.Emit.{nodeEntries, emitted}
 use Rattle.term.specs.Written.{Put, Front, NamesListed}
 use Rattle.term.proofs.Runs.{Fresh, fresh-first, other-fresh, other-entries, longer, run-entries, run-fresh, listed-ground, unlisted-ground}
-use Rattle.term.proofs.Writing.{Writing, writing-first, piece-fits, piece-put, writing-last, writing-length, put-one}
+use Rattle.model.proofs.Writing.{Writing, writing-first, piece-fits, writing-last, writing-length}
+use Rattle.term.proofs.Pieces.{piece-put, put-one}
 
 -- the bytes before i are passed, and their entries written
 pub record Entering (names text old new : List ℕ) (at i : ℕ) : Type 0 where
@@ -27,7 +28,7 @@ enter-first names text old l = record { within = omega arith; fresh = fresh-firs
 
 pub enter-last : {names text old new : List ℕ} {at i : ℕ} → Entering names text old new at i → length text ≤ i → Front old new (emitted names false text)
 unfolding emitted
-enter-last {names} {text} {old} {new} {at} {i} x ge = writing-last (rw (drop-of-length-le text {i = i} ge) at (x .writes))
+enter-last {names} {text} {old} {new} {at} {i} x ge = record { holds = writing-last (rw (drop-of-length-le text {i = i} ge) at (x .writes)) }
 
 module _ {names text old new : List ℕ} {at i : ℕ} (x : Entering names text old new at i) where
   pub enter-length : length new ≡ length old

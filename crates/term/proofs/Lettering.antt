@@ -12,7 +12,8 @@ use Rattle.model.proofs.Lists.{drop-next}
 use Rattle.names.specs.Listed.{Lined}
 use Rattle.term.specs.Emit.{lettering, lettered, markAfter}
 use Rattle.term.specs.Written.{Put, Front}
-use Rattle.term.proofs.Writing.{Writing, writing-first, piece-fits, piece-put, writing-last, put-one, put-both}
+use Rattle.model.proofs.Writing.{Writing, writing-first, piece-fits, writing-last}
+use Rattle.term.proofs.Pieces.{piece-put, put-one, put-both}
 
 module _ (names : List ℕ) (mark e : ℕ) where
   pub letter-close : e ≡ 0 → mark ≡ 44 → lettering names mark e ≡ 41 ∷ []
@@ -93,7 +94,7 @@ module _ {names tree old new : List ℕ} {at mark i : ℕ} (x : Lettered names t
   })
 
 pub letter-last : {names tree old new : List ℕ} {at mark i : ℕ} → Lettered names tree old new at mark i → length tree ≤ i → Front old new (lettered names 0 tree)
-letter-last {names} {tree} {old} {new} {at} {mark} {i} x ge = writing-last (rw (letters-end names tree mark i ge) at (x .writes))
+letter-last {names} {tree} {old} {new} {at} {mark} {i} x ge = record { holds = writing-last (rw (letters-end names tree mark i ge) at (x .writes)) }
 
 -- a copy of all bytes is a piece put
 pub pasted : (old bytes : List ℕ) (at i : ℕ) → length bytes ≤ i → i ≤ length bytes → Put old (paste old at bytes i) bytes at (at + i)

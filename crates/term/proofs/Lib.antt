@@ -2,7 +2,7 @@
 pub mod Letters
 pub mod Tokens
 pub mod Runs
-pub mod Writing
+pub mod Pieces
 pub mod Entering
 pub mod Lettering
 pub mod Outcomes

@@ -7,18 +7,19 @@ use native.Mathlib.Omega.{arith}
 use lib.ListN.{length, getD}
 use lib.Dec.{ltb}
 use borrow.Author.Tests.{lt-ltb, le-ltb, ltb-false}
-use Rattle.model.specs.Answers.{Outcome, result, refused, kindNumber, outcome, lentAfter}
+use Rattle.model.specs.Answers.{Outcome, result, refused, refusedBy, outcome, lentAfter}
 use Rattle.model.specs.Choice.{if_then_else_}
 use Rattle.model.specs.Names.{howManyNames, namesOr}
 use Rattle.model.specs.Term.{Scan, passes, breaksAt, IsTerm, termOr}
 use Rattle.model.specs.Tree.{WellFormed}
 use Rattle.model.specs.TermOperations.{entriesOf, bytesOf, symbolGround, readTermOutcome, writeTermOutcome, readTermList, writeTermList}
 use Rattle.model.specs.declared.Answer.{Answer}
-use Rattle.model.proofs.Choice.{no-fault, first-fault, is-false}
+use Rattle.model.specs.declared.Answer.the-variants.{Refused}
+use Rattle.model.proofs.Choice.{no-fault, fault-refused, is-false}
 use Rattle.model.specs.declared.Refusal.{Refusal}
 use Rattle.model.proofs.Scan.{whole-term}
-use Rattle.model.proofs.Entries.{tree-or-back}
 use Rattle.tree.specs.Reading.{Decides}
+use Rattle.tree.proofs.Laws.{list-refused, list-taken}
 use Rattle.tree.specs.declared.Form.{Form}
 use Rattle.tree.specs.declared.Form.the-variants.{Refuses, Tree as FormTree}
 use Rattle.chains.specs.First.{firstWith}
@@ -26,7 +27,7 @@ use Rattle.chains.specs.declared.Found.the-variants.{At, Nothing}
 use Rattle.chains.proofs.First.{first-is, first-none, apart}
 use Rattle.scan.specs.Reading.{placeOf, scanned}
 use Rattle.term.specs.Emit.{emitted, nameCount, lettered}
-use Rattle.term.specs.Written.{Front, Listing, AllNamed, readFits, readListed, readNamed, writeFits, writeNamed, writeFormed, Gave, ReadTerm, WriteTerm}
+use Rattle.term.specs.Written.{Front, Listing, AllNamed, readFits, readWhole, readNamed, writeFits, writeFormed, writeNamed, Gave, ReadTerm, WriteTerm}
 use Rattle.names.specs.Listed.{Answered}
 use Rattle.names.specs.declared.Names.{Names}
 use Rattle.names.specs.declared.Names.the-variants.{Sound, Faulty}
@@ -36,8 +37,8 @@ use Rattle.term.proofs.Tokens.{emitted-is, names-counted}
 use Rattle.term.proofs.Letters.{letters-are}
 
 -- an answer with its list
-pub gave-refused : {o : Outcome} {written old : List ℕ} {r : Answer} (k p : ℕ) → outcome r ≡ refused k p → refused k p ≡ o → Gave o written old old r
-gave-refused {o} {written} {old} k p a e = record { answer = a ∙ e; list = ap (λ (x : Outcome). lentAfter x written old) e }
+pub gave-refused : {o : Outcome} {written old : List ℕ} (r : Refusal) → refusedBy r ≡ o → Gave o written old old (Refused r)
+gave-refused {o} {written} {old} r e = record { answer = e; list = ap (λ (x : Outcome). lentAfter x written old) e }
 
 pub gave-result : {o : Outcome} {written old new : List ℕ} {r : Answer} (n : ℕ) → outcome r ≡ result n → result n ≡ o → Front old new written → Gave o written old new r
 gave-result {o} {written} {old} n a e f = record { answer = a ∙ e; list = f .holds ∙ ap (λ (x : Outcome). lentAfter x written old) e }
@@ -72,12 +73,12 @@ entered-front names text old new w f = rw (sym (emitted-is names text w)) f
 
 -- 20
 module _ {names text : List ℕ} {r : Listed} (x : Listing names text r) (room : ℕ) where
-  pub not-listed : (p : ℕ) → r ≡ Unlisted p → refused 20 p ≡ readListed names text room
-  unfolding readListed
+  pub not-listed : (p : ℕ) → r ≡ Unlisted p → refused 20 p ≡ readWhole names text room
+  unfolding readWhole
   not-listed p e = rw e at (x .decided (readFits names text room))
 
-  pub all-listed : (k : ℕ) → r ≡ All k → readFits names text room ≡ readListed names text room
-  unfolding readListed
+  pub all-listed : (k : ℕ) → r ≡ All k → readFits names text room ≡ readWhole names text room
+  unfolding readWhole
   all-listed k e = rw e at (x .decided (readFits names text room))
 
 -- 19
@@ -94,7 +95,7 @@ module _ (names text : List ℕ) (room : ℕ) (short : length text ≤ 65536) wh
   unfolding readNamed termOr
   no-term p e = rw (le-ltb 65536 (length text) short, broken (scanned text) p e)
 
-  pub a-term : Nothing ≡ placeOf (scanned text) → readListed names text room ≡ readNamed names text room
+  pub a-term : Nothing ≡ placeOf (scanned text) → readWhole names text room ≡ readNamed names text room
   unfolding readNamed termOr
   a-term e = rw (le-ltb 65536 (length text) short, unbroken (scanned text) e)
 
@@ -116,7 +117,7 @@ module _ {names starts heads next : List ℕ} {r : Names} (x : Answered names st
 
 -- the whole
 pub read-by : (names text : List ℕ) (room : ℕ) → namesOr names (readNamed names text room) ≡ readTermOutcome names text room
-unfolding readTermOutcome readNamed readListed readFits
+unfolding readTermOutcome readNamed readWhole readFits
 read-by names text room = refl
 
 pub read-told : {names text old new : List ℕ} {r : Answer} → Gave (readTermOutcome names text (length old)) (entriesOf names text) old new r → ReadTerm names text old new r
@@ -150,37 +151,31 @@ module _ (names tree : List ℕ) (n room : ℕ) (c : n ≡ howManyNames names) w
   none-unnamed : firstWith (λ i. ltb n (getD tree i 0)) (length tree) ≡ Nothing → (i : ℕ) → i < length tree → ltb n (getD tree i 0) ≡ false
   none-unnamed e i l = is-false (ltb n (getD tree i 0)) (first-none (λ i. ltb n (getD tree i 0)) (length tree) e i l)
 
-  pub unnamed : (p : ℕ) → firstWith (λ i. ltb n (getD tree i 0)) (length tree) ≡ At p → refused 23 p ≡ writeNamed names tree room
-  unfolding writeNamed
+  pub unnamed : (p : ℕ) → firstWith (λ i. ltb n (getD tree i 0)) (length tree) ≡ At p → refused 23 p ≡ writeFormed names tree room
+  unfolding writeFormed
   unnamed p e =
       let f = first-is (λ i. ltb n (getD tree i 0)) (length tree) p e in
-      let g = ground-is p true (f .1) in
-      sym (rw g at (first-fault (length tree) p (symbolGround names tree) (writeFits names tree room) (f .0) (λ j l. ground-is j false (is-false (ltb n (getD tree j 0)) (f .2 j l))) (omega (arith, g))))
+      fault-refused (length tree) p 23 (symbolGround names tree) (writeFits names tree room) (f .0) (λ j l. ground-is j false (is-false (ltb n (getD tree j 0)) (f .2 j l))) (ground-is p true (f .1)) (omega arith)
 
-  pub all-named : firstWith (λ i. ltb n (getD tree i 0)) (length tree) ≡ Nothing → writeFits names tree room ≡ writeNamed names tree room
-  unfolding writeNamed
+  pub all-named : firstWith (λ i. ltb n (getD tree i 0)) (length tree) ≡ Nothing → writeFits names tree room ≡ writeFormed names tree room
+  unfolding writeFormed
   all-named e = sym (no-fault (length tree) (symbolGround names tree) (writeFits names tree room) (λ i l. ground-is i false (none-unnamed e i l)))
 
   pub named-low : length tree ≤ 4096 → firstWith (λ i. ltb n (getD tree i 0)) (length tree) ≡ Nothing → AllNamed n tree
   named-low f e = record { few = f; named = λ i l. ltb-false n (getD tree i 0) (none-unnamed e i l) }
 
 -- 12 and 13
-module _ {tree : List ℕ} {f : Form} (x : Decides tree f) where
-  pub not-a-tree : (names : List ℕ) (room : ℕ) (r : Refusal) → f ≡ Refuses r → refused (kindNumber (r .kind)) (r .place) ≡ writeFormed names tree room
-  unfolding writeFormed
-  not-a-tree names room r e = rw e at (x .decided (writeNamed names tree room))
+module _ {tree : List ℕ} {f : Form} (x : Decides tree f) (names : List ℕ) (room : ℕ) where
+  pub not-a-tree : (r : Refusal) → f ≡ Refuses r → refusedBy r ≡ writeNamed names tree room
+  unfolding writeNamed
+  not-a-tree r e = list-refused x r e (writeFormed names tree room)
 
-  pub a-tree : (names : List ℕ) (room : ℕ) → f ≡ FormTree → writeNamed names tree room ≡ writeFormed names tree room
-  unfolding writeFormed
-  a-tree names room e = rw e at (x .decided (writeNamed names tree room))
+  pub a-tree : f ≡ FormTree → writeFormed names tree room ≡ writeNamed names tree room
+  unfolding writeNamed
+  a-tree e = list-taken x e (writeFormed names tree room)
 
-  pub formed : f ≡ FormTree → WellFormed tree × (length tree ≤ 4096)
-  formed e =
-      let b = tree-or-back tree 0 (result 0) (sym (rw e at (x .decided (result 0)))) in
-      (b .0, b .1)
-
-pub write-by : (names tree : List ℕ) (room : ℕ) → namesOr names (writeFormed names tree room) ≡ writeTermOutcome names tree room
-unfolding writeTermOutcome writeFormed writeNamed writeFits
+pub write-by : (names tree : List ℕ) (room : ℕ) → namesOr names (writeNamed names tree room) ≡ writeTermOutcome names tree room
+unfolding writeTermOutcome writeNamed writeFormed writeFits
 write-by names tree room = refl
 
 pub write-told : {names tree old new : List ℕ} {r : Answer} → Gave (writeTermOutcome names tree (length old)) (bytesOf names tree) old new r → WriteTerm names tree old new r

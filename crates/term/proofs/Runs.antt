@@ -13,7 +13,7 @@ use Rattle.model.specs.Choice.{if_then_else_}
 use Rattle.model.specs.Names.{isNameByte, allNameBytes, symbolOf, isListed, howManyNames}
 use Rattle.model.specs.Term.{run, nameBegins, nameAt}
 use Rattle.model.specs.TermOperations.{nameGround}
-use Rattle.model.proofs.Choice.{no-fault, first-fault}
+use Rattle.model.proofs.Choice.{no-fault, fault-refused}
 use Rattle.model.proofs.Bytes.{NoByte, byte-first, byte-others}
 use Rattle.model.proofs.Lists.{drop-next}
 use Rattle.chains.specs.declared.Found.the-variants.{At, Nothing}
@@ -132,11 +132,7 @@ module _ (names text : List ℕ) (i end : ℕ) (l : i < length text) (e : isName
       → (nameGround names text i ≡ 0) × (symbolOf names (nameAt text i) ≡ k + 1) × (k < n)
   listed-ground n k c f =
       let g = found-listed names (nameAt text i) n k c (rw (part-is) at f) in
-      (ground-by names text i _ true refl (g .0) ∙ none (nameBegins text i), g .1, g .2)
-    where
-      none : (a : Bool) → _≡_ {A = ℕ} (if a && false then 20 else 0) 0
-      none true = refl
-      none false = refl
+      (ground-by names text i _ true refl (g .0) ∙ ap (λ (t : Bool). if t then 20 else 0) (and-false (nameBegins text i)), g .1, g .2)
 
   pub unlisted-ground : (n : ℕ) → n ≡ howManyNames names → Fresh text i → nameFound names n (take (end - i) (drop i text)) ≡ Nothing → nameGround names text i ≡ 20
   unlisted-ground n c h f = ground-by names text i true false (h e) (not-found-listed names (nameAt text i) n c (rw (part-is) at f))
@@ -169,7 +165,7 @@ counted-all {names} {text} {count} {i} x ge =
 
 pub counted-stop : {names text : List ℕ} {count i : ℕ} → Counted names text count i → i < length text → nameGround names text i ≡ 20 → Listing names text (Unlisted i)
 counted-stop {names} {text} {count} {i} x l g = record {
-  decided = λ o. sym (rw g at (first-fault (length text) i (nameGround names text) o l (x .sound) (omega (arith, g))));
+  decided = λ o. fault-refused (length text) i 20 (nameGround names text) o l (x .sound) g (omega arith);
   none = λ k h. never h;
   counted = λ k h. never h;
   few = λ k h. never h;

@@ -47,27 +47,27 @@ pub record AllNamed (n : ℕ) (tree : List ℕ) : Type 0 where
   pub few : length tree ≤ 4096
   pub named : (i : ℕ) → i < length tree → getD tree i 0 ≤ n
 
--- Reading after 20, after 19, after 18 and after 17: what follows in `readTermOutcome`
+-- Reading after 20, after 19 and after 17: what follows in `readTermOutcome`
 unfoldable pub readFits : (names text : List ℕ) (room : ℕ) → Outcome
 readFits names text room =
     if ltb 4096 (length (entriesOf names text)) then refused 21 0 else
     if ltb room (length (entriesOf names text)) then refused 22 (length (entriesOf names text)) else result (length (entriesOf names text))
 
-unfoldable pub readListed : (names text : List ℕ) (room : ℕ) → Outcome
-readListed names text room = firstFaulty (length text) (nameGround names text) (readFits names text room)
+unfoldable pub readWhole : (names text : List ℕ) (room : ℕ) → Outcome
+readWhole names text room = firstFaulty (length text) (nameGround names text) (readFits names text room)
 
 unfoldable pub readNamed : (names text : List ℕ) (room : ℕ) → Outcome
-readNamed names text room = if ltb 65536 (length text) then refused 18 0 else termOr text (readListed names text room)
+readNamed names text room = if ltb 65536 (length text) then refused 18 0 else termOr text (readWhole names text room)
 
 -- Writing after 23, after 13 and after 17: what follows in `writeTermOutcome`
 unfoldable pub writeFits : (names tree : List ℕ) (room : ℕ) → Outcome
 writeFits names tree room = if ltb room (length (bytesOf names tree)) then refused 24 (length (bytesOf names tree)) else result (length (bytesOf names tree))
 
-unfoldable pub writeNamed : (names tree : List ℕ) (room : ℕ) → Outcome
-writeNamed names tree room = firstFaulty (length tree) (symbolGround names tree) (writeFits names tree room)
-
 unfoldable pub writeFormed : (names tree : List ℕ) (room : ℕ) → Outcome
-writeFormed names tree room = treeOr tree (writeNamed names tree room)
+writeFormed names tree room = firstFaulty (length tree) (symbolGround names tree) (writeFits names tree room)
+
+unfoldable pub writeNamed : (names tree : List ℕ) (room : ℕ) → Outcome
+writeNamed names tree room = treeOr tree (writeFormed names tree room)
 
 -- the answer is the outcome, and the lent list then holds what is written and the old rest, or on a refusal the old list
 pub record Gave (o : Outcome) (written old new : List ℕ) (r : Answer) : Type 0 where

@@ -3,7 +3,7 @@ use chains::Found;
 use chains::wide;
 use model::Answer;
 use model::Kind;
-use model::Refusal;
+use model::refuse;
 use names::Names;
 use names::check_names;
 use names::find_name;
@@ -25,7 +25,7 @@ ghost use Rattle.model.specs.TermOperations.{entriesOf, bytesOf};
 ghost use Rattle.chains.specs.First.{firstWith};
 ghost use Rattle.names.specs.Listed.{Known, Lined};
 ghost use Rattle.term.specs.Emit.{nodeEntries, emitted, nameCount, lettering, markAfter, lettered};
-ghost use Rattle.term.specs.Written.{Put, Front, Listing, NamesListed, AllNamed, readFits, readListed, readNamed, writeFits, writeNamed, writeFormed, Gave, ReadTerm, WriteTerm};
+ghost use Rattle.term.specs.Written.{Put, Front, Listing, NamesListed, AllNamed, readFits, readWhole, readNamed, writeFits, writeFormed, writeNamed, Gave, ReadTerm, WriteTerm};
 
 // Every name in a text is listed, so many; or the first that is not begins at a place.
 pub enum Listed {
@@ -149,16 +149,10 @@ fn enter_tree(
 {
     let needed = count * 2;
     if 4096 < needed {
-        return Answer::Refused(Refusal {
-            place: 0,
-            kind: Kind::TermTreeTooLong,
-        });
+        return Answer::Refused(refuse(Kind::TermTreeTooLong, 0));
     }
     if tree.len() < needed {
-        return Answer::Refused(Refusal {
-            place: needed as u64,
-            kind: Kind::ShortTermTree,
-        });
+        return Answer::Refused(refuse(Kind::ShortTermTree, needed as u64));
     }
     put_entries(names, starts, heads, next, n, text, tree);
     Answer::Result(needed as u64)
@@ -177,13 +171,10 @@ fn read_whole(
     requires { ⌜ Known (now names) (now starts) (now heads) (now next) n ⌝ }
     requires { ⌜ n ≡ howManyNames (now names) ⌝ }
     requires { ⌜ IsTerm (now text) × (length (now text) ≤ 65536) ⌝ }
-    ensures { λ r. ⌜ Gave (readListed (now (names .entry)) (now (text .entry)) (length (now (tree .entry)))) (entriesOf (now (names .entry)) (now (text .entry))) (now (tree .entry)) (now (tree .exit)) r ⌝ }
+    ensures { λ r. ⌜ Gave (readWhole (now (names .entry)) (now (text .entry)) (length (now (tree .entry)))) (entriesOf (now (names .entry)) (now (text .entry))) (now (tree .entry)) (now (tree .exit)) r ⌝ }
 {
     match list_names(names, starts, heads, next, n, text) {
-        Listed::Unlisted(place) => Answer::Refused(Refusal {
-            place: place as u64,
-            kind: Kind::UnlistedName,
-        }),
+        Listed::Unlisted(place) => Answer::Refused(refuse(Kind::UnlistedName, place as u64)),
         Listed::All(count) => enter_tree(names, starts, heads, next, n, text, count, tree),
     }
 }
@@ -203,16 +194,10 @@ fn read_named(
     ensures { λ r. ⌜ Gave (readNamed (now (names .entry)) (now (text .entry)) (length (now (tree .entry)))) (entriesOf (now (names .entry)) (now (text .entry))) (now (tree .entry)) (now (tree .exit)) r ⌝ }
 {
     if 65536 < text.len() {
-        return Answer::Refused(Refusal {
-            place: 0,
-            kind: Kind::TextTooLong,
-        });
+        return Answer::Refused(refuse(Kind::TextTooLong, 0));
     }
     match scan_text(text) {
-        Found::At(place) => Answer::Refused(Refusal {
-            place: place as u64,
-            kind: Kind::NotATerm,
-        }),
+        Found::At(place) => Answer::Refused(refuse(Kind::NotATerm, place as u64)),
         Found::Nothing => read_whole(names, starts, heads, next, n, text, tree),
     }
 }
@@ -225,10 +210,7 @@ pub fn read_term(names: &[u8], text: &[u8], tree: &mut [u16]) -> Answer
     let mut heads = [0u16; 512];
     let mut next = [0u16; 256];
     match check_names(names, &mut starts, &mut heads, &mut next) {
-        Names::Faulty(line) => Answer::Refused(Refusal {
-            place: line as u64,
-            kind: Kind::FaultyNames,
-        }),
+        Names::Faulty(line) => Answer::Refused(refuse(Kind::FaultyNames, line as u64)),
         Names::Sound(n) => read_named(names, &starts, &heads, &next, n, text, tree),
     }
 }
@@ -370,10 +352,7 @@ fn write_letters(
 {
     let needed = text_length(names, starts, n, tree);
     if text.len() < needed {
-        return Answer::Refused(Refusal {
-            place: needed as u64,
-            kind: Kind::ShortTextList,
-        });
+        return Answer::Refused(refuse(Kind::ShortTextList, needed as u64));
     }
     put_text(names, starts, n, tree, text);
     Answer::Result(needed as u64)
@@ -390,13 +369,10 @@ fn write_formed(
     requires { ⌜ Lined (now names) (now starts) n ⌝ }
     requires { ⌜ n ≡ howManyNames (now names) ⌝ }
     requires { ⌜ WellFormed (now tree) × (length (now tree) ≤ 4096) ⌝ }
-    ensures { λ r. ⌜ Gave (writeNamed (now (names .entry)) (now (tree .entry)) (length (now (text .entry)))) (bytesOf (now (names .entry)) (now (tree .entry))) (now (text .entry)) (now (text .exit)) r ⌝ }
+    ensures { λ r. ⌜ Gave (writeFormed (now (names .entry)) (now (tree .entry)) (length (now (text .entry)))) (bytesOf (now (names .entry)) (now (tree .entry))) (now (text .entry)) (now (text .exit)) r ⌝ }
 {
     match first_unnamed(tree, n) {
-        Found::At(place) => Answer::Refused(Refusal {
-            place: place as u64,
-            kind: Kind::UnnamedSymbol,
-        }),
+        Found::At(place) => Answer::Refused(refuse(Kind::UnnamedSymbol, place as u64)),
         Found::Nothing => write_letters(names, starts, n, tree, text),
     }
 }
@@ -405,7 +381,7 @@ fn write_formed(
 fn write_named(names: &[u8], starts: &[u16; 256], n: usize, tree: &[u16], text: &mut [u8]) -> Answer
     requires { ⌜ Lined (now names) (now starts) n ⌝ }
     requires { ⌜ n ≡ howManyNames (now names) ⌝ }
-    ensures { λ r. ⌜ Gave (writeFormed (now (names .entry)) (now (tree .entry)) (length (now (text .entry)))) (bytesOf (now (names .entry)) (now (tree .entry))) (now (text .entry)) (now (text .exit)) r ⌝ }
+    ensures { λ r. ⌜ Gave (writeNamed (now (names .entry)) (now (tree .entry)) (length (now (text .entry)))) (bytesOf (now (names .entry)) (now (tree .entry))) (now (text .entry)) (now (text .exit)) r ⌝ }
 {
     match check_tree(tree) {
         Form::Refuses(r) => Answer::Refused(r),
@@ -421,10 +397,7 @@ pub fn write_term(names: &[u8], tree: &[u16], text: &mut [u8]) -> Answer
     let mut heads = [0u16; 512];
     let mut next = [0u16; 256];
     match check_names(names, &mut starts, &mut heads, &mut next) {
-        Names::Faulty(line) => Answer::Refused(Refusal {
-            place: line as u64,
-            kind: Kind::FaultyNames,
-        }),
+        Names::Faulty(line) => Answer::Refused(refuse(Kind::FaultyNames, line as u64)),
         Names::Sound(n) => write_named(names, &starts, n, tree, text),
     }
 }

@@ -2,7 +2,7 @@
 use Prim.Native.Nat.{ℕ, suc, _+_, _-_, _<_, _≤_}
 use mathlib.Core.Path.{_≡_, refl, sym, ap, _∙_}
 use mathlib.Core.Bool.{Bool, true, false, _&&_, _||_}
-use mathlib.Core.List.{List, [], _∷_, _++_}
+use mathlib.Core.List.{List, [], _∷_}
 use native.Mathlib.Omega.{arith}
 use native.Mathlib.Numerals.{add-one}
 use lib.ListN.{length, getD, take}
@@ -10,13 +10,18 @@ use lib.Seq.{take-suc, take-all}
 use mathlib.Core.Logic.{_⊎_, inl, inr}
 use lib.Dec.{eqb, ltb}
 use borrow.Author.Tests.{lt-ltb, le-ltb, eq-eqb, ne-eqb, ltb-true, ltb-false}
-use Rattle.model.specs.Answers.{Outcome, refused}
+use Rattle.model.specs.Answers.{Outcome, result, refused, refusedBy}
 use Rattle.model.specs.Choice.{if_then_else_}
+use Rattle.model.specs.Tree.{WellFormed}
 use Rattle.model.specs.Entries.{openAfter, openAt, entryGround, endsTooSoon, formOr, treeOr}
-use Rattle.model.proofs.Choice.{no-fault, first-fault, none-more, or-left, or-right}
-use Rattle.tree.specs.Reading.{fresh, stepOf}
+use Rattle.model.proofs.Choice.{no-fault, fault-refused, none-more, or-left, or-right}
+use Rattle.model.proofs.Entries.{open-append, tree-or-back}
+use Rattle.model.specs.declared.Refusal.{Refusal}
+use Rattle.tree.specs.Reading.{fresh, stepOf, Decides}
 use Rattle.tree.specs.declared.Reading.{Reading}
 use Rattle.tree.specs.declared.Step.the-variants.{Opens, Closes, Refuses}
+use Rattle.tree.specs.declared.Form.{Form}
+use Rattle.tree.specs.declared.Form.the-variants.{Tree, Refuses as RefusesList}
 
 -- the state after i entries, none of which was refused
 pub record Read (tree : List ℕ) (s : Reading) (i : ℕ) : Type 0 where
@@ -53,12 +58,7 @@ refuses-by true z x y e = refl
 refuses-by false true x y e = let w : _≡_ {A = ℕ} 0 1 = cc in absurd (omega arith)
 refuses-by false false x y e = let w : _≡_ {A = ℕ} 0 1 = cc in absurd (omega arith)
 
--- nodes open after two lists of entries
-open-append : (d : ℕ) (xs ys : List ℕ) → openAfter d (xs ++ ys) ≡ openAfter (openAfter d xs) ys
-unfolding openAfter
-open-append d [] ys = refl
-open-append d (e ∷ xs) ys = open-append (if eqb e 0 then d - 1 else suc d) xs ys
-
+-- nodes open after one entry more
 open-next : (tree : List ℕ) (i : ℕ) → i < length tree → openAt tree (i + 1) ≡ (if eqb (getD tree i 0) 0 then openAt tree i - 1 else suc (openAt tree i))
 unfolding openAfter
 open-next tree i l = rw (add-one i, take-suc tree i 0 l) (open-append 0 (take i tree) (getD tree i 0 ∷ []))
@@ -108,7 +108,7 @@ module _ {tree : List ℕ} {s : Reading} {i : ℕ} (r : Read tree s i) (l : i < 
       let t = refuses-by (refusing (s .depth) (getD tree i 0) (s .begun)) (eqb (getD tree i 0) 0) _ _ e in
       let g : entryGround tree i ≡ 13 = rw t at ground-is in
       let long : ltb 4096 (length tree) ≡ false = le-ltb 4096 (length tree) (r .few) in
-      rw long (sym (rw g at (first-fault (length tree) i (entryGround tree) (if endsTooSoon tree then refused 13 (length tree) else o) l (r .sound) (omega (arith, g)))))
+      rw long (fault-refused (length tree) i 13 (entryGround tree) _ l (r .sound) g (omega arith))
 
 -- before the first entry
 pub begins : (tree : List ℕ) (s : Reading) → length tree ≤ 4096 → s ≡ fresh → Read tree s 0
@@ -150,3 +150,14 @@ module _ {tree : List ℕ} {s : Reading} {i : ℕ} (r : Read tree s i) (ge : len
 pub too-long : (tree : List ℕ) → 4096 < length tree → (o : Outcome) → refused 12 0 ≡ treeOr tree o
 unfolding treeOr
 too-long tree l o = rw (lt-ltb 4096 (length tree) l)
+
+-- what the answer says: 12 or 13, or a tree of at most 4,096 entries
+module _ {tree : List ℕ} {f : Form} (d : Decides tree f) where
+  pub list-refused : (r : Refusal) → f ≡ RefusesList r → (o : Outcome) → refusedBy r ≡ treeOr tree o
+  list-refused r e o = rw e at (d .decided o)
+
+  pub list-taken : f ≡ Tree → (o : Outcome) → o ≡ treeOr tree o
+  list-taken e o = rw e at (d .decided o)
+
+  pub list-well : f ≡ Tree → WellFormed tree × (length tree ≤ 4096)
+  list-well e = let b = tree-or-back tree 0 (result 0) (sym (list-taken e (result 0))) in (b .0, b .1)

@@ -4,7 +4,7 @@ use mathlib.Core.Path.{_≡_}
 use mathlib.Core.Bool.{true, false, _&&_, _||_}
 use mathlib.Core.List.{List}
 use lib.Dec.{eqb, ltb}
-use Rattle.model.specs.Answers.{Outcome, refused, kindNumber}
+use Rattle.model.specs.Answers.{Outcome, refusedBy}
 use Rattle.model.specs.Choice.{if_then_else_}
 use Rattle.model.specs.Entries.{treeOr}
 use Rattle.tree.specs.declared.Reading.{Reading}
@@ -26,7 +26,7 @@ stepOf r e =
 -- the refusal, or where the list is a tree what follows
 abbrev pub formThen : Form → Outcome → Outcome
 formThen Tree otherwise = otherwise
-formThen (RefusesList r) otherwise = refused (kindNumber (r .kind)) (r .place)
+formThen (RefusesList r) otherwise = refusedBy r
 
 -- the answer decides 12 and 13
 pub record Decides (entries : List ℕ) (f : Form) : Type 0 where

@@ -1,6 +1,7 @@
 // A tree's entries, read one by one: refusals 12 and 13.
 use model::Kind;
 use model::Refusal;
+use model::refuse;
 ghost use mathlib.Core.Path.{_≡_};
 ghost use Prim.Native.Nat.{_<_};
 ghost use Rattle.tree.specs.Reading.{fresh, stepOf, Decides};
@@ -73,10 +74,7 @@ pub fn check_tree(tree: &[u16]) -> Form
     ensures { λ r. ⌜ Decides (now (tree .entry)) r ⌝ }
 {
     if 4096 < tree.len() {
-        return Form::Refuses(Refusal {
-            place: 0,
-            kind: Kind::TreeTooLong,
-        });
+        return Form::Refuses(refuse(Kind::TreeTooLong, 0));
     }
     let mut s = Reading::new();
     let mut i: usize = 0;
@@ -91,10 +89,7 @@ pub fn check_tree(tree: &[u16]) -> Form
                 i += 1;
             }
             Step::Refuses => {
-                return Form::Refuses(Refusal {
-                    place: i as u64,
-                    kind: Kind::NotATree,
-                });
+                return Form::Refuses(refuse(Kind::NotATree, i as u64));
             }
         }
     }
@@ -103,8 +98,5 @@ pub fn check_tree(tree: &[u16]) -> Form
             return Form::Tree;
         }
     }
-    Form::Refuses(Refusal {
-        place: i as u64,
-        kind: Kind::NotATree,
-    })
+    Form::Refuses(refuse(Kind::NotATree, i as u64))
 }

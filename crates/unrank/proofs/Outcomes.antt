@@ -7,7 +7,7 @@ use native.Mathlib.Omega.{arith}
 use lib.ListN.{length, drop}
 use lib.Dec.{ltb}
 use borrow.Author.Tests.{lt-ltb, le-ltb}
-use Rattle.model.specs.Answers.{Outcome, result, refused, kindNumber, outcome, lentAfter}
+use Rattle.model.specs.Answers.{Outcome, result, refused, refusedBy, outcome, lentAfter}
 use Rattle.model.specs.Choice.{if_then_else_}
 use Rattle.model.specs.Check.{checkOutcome}
 use Rattle.model.specs.Number.{checkedThen}
@@ -80,8 +80,8 @@ module _ {states : ℕ} {rows accepting offsets heads next first after counts lo
   -- the check refuses
   pub write-refused : (f : Refusal) → x ≡ Refuses f → WroteTree states rows accepting number old old (Refused f)
   write-refused f e =
-      told-so states rows accepting number old old (Refused f) (refused (kindNumber (f .kind)) (f .place)) refl
-      (write-by states rows accepting number old (refused (kindNumber (f .kind)) (f .place)) (ap told (sym e) ∙ c .answer)) refl
+      told-so states rows accepting number old old (Refused f) (refusedBy f) refl
+      (write-by states rows accepting number old (refusedBy f) (ap told (sym e) ∙ c .answer)) refl
 
   module _ (total n : ℕ) (e : x ≡ Sound total n) where
     follows : below states rows accepting number old total ≡ writeOutcome states rows accepting number (length old)

@@ -1,6 +1,6 @@
 -- A table that passes, with what its check leaves. Assumes nothing.
 use Prim.Native.Nat.{ℕ, _<_, _≤_}
-use mathlib.Core.Path.{_≡_, refl, sym, ap, _∙_}
+use mathlib.Core.Path.{_≡_, sym, ap, _∙_}
 use mathlib.Core.List.{List, map}
 use native.Mathlib.Omega.{arith}
 use lib.ListN.{length, getD}
@@ -9,29 +9,26 @@ use Rattle.model.specs.Answers.{result}
 use Rattle.model.specs.Count.{Counts, sum, count}
 use Rattle.model.specs.Check.{countLimit, checkOutcome}
 use Rattle.model.proofs.Good.{Good, Within, Ordered}
-use Rattle.model.proofs.Counting.{map-agree, stateCounts-local, count-eqn, total-is}
-use Rattle.model.proofs.Checked.{NoGround, passes-just, checked-good, checked-within}
+use Rattle.model.proofs.Counting.{map-agree, stateCounts-local, count-eqn}
+use Rattle.model.proofs.Demand3.{passing-good, passing-within, passing-total}
 use Rattle.model.proofs.Rows.{rowsOf-length, rowsOf-at}
 use Rattle.counts.specs.Chain.{target}
 use Rattle.counts.specs.States.{held, rowTable}
-use Rattle.counts.proofs.All.{earlier-local}
+use Rattle.counts.proofs.All.{count-same, earlier-local}
 use Rattle.table.specs.declared.Checked.{Checked}
 use Rattle.table.specs.declared.Checked.the-variants.{Sound}
 use Rattle.table.specs.Checked.{told, Prepared, CheckAnswer}
 use Rattle.unrank.specs.Ready.{Ready}
 
 module _ {states : ℕ} {rows accepting : List ℕ} {total : ℕ} {offsets first after counts sums : List ℕ} (x : Ready states rows accepting total offsets first after counts sums) where
-  no-ground : NoGround countLimit states rows accepting
-  no-ground = passes-just states rows accepting total .0 (x .passes) .0
-
   pub good : Good (tableOf states rows accepting)
-  good = checked-good countLimit states rows accepting no-ground
+  good = passing-good states rows accepting total (x .passes)
 
   pub within : Within countLimit (tableOf states rows accepting)
-  within = checked-within countLimit states rows accepting no-ground
+  within = passing-within states rows accepting total (x .passes)
 
   pub few : states ≤ 256
-  few = no-ground .few-states
+  few = within .few-states
 
   pub ordered : Ordered (rowsOf rows)
   ordered = good .ordered
@@ -48,14 +45,8 @@ module _ {states : ℕ} {rows accepting : List ℕ} {total : ℕ} {offsets first
   -- and the total is their sum over the accepting list
   pub total-held : total ≡ sum (map (held counts) accepting)
   total-held =
-      passes-just states rows accepting total .0 (x .passes) .1
-      ∙ total-is (tableOf states rows accepting)
+      passing-total states rows accepting total (x .passes)
       ∙ ap sum (map-agree (count (tableOf states rows accepting)) (held counts) 0 accepting (λ i l. sym (x .counted (getD accepting i 0) (good .listed i l))))
-
--- no count depends on the accepting list
-count-same : (states : ℕ) (rows accepting : List ℕ) (a : ℕ) → count (rowTable states rows) a ≡ count (tableOf states rows accepting) a
-unfolding count
-count-same states rows accepting a = refl
 
 -- what the check leaves of a table that passes
 module _ {states : ℕ} {rows accepting offsets heads next first after counts longest sums : List ℕ} {r : Checked} (x : CheckAnswer states rows accepting offsets heads next first after counts longest sums r)
@@ -67,7 +58,7 @@ module _ {states : ℕ} {rows accepting offsets heads next first after counts lo
   prepared = x .prepared total n e
 
   table-good : Good (tableOf states rows accepting)
-  table-good = checked-good countLimit states rows accepting (passes-just states rows accepting total .0 (sym checks) .0)
+  table-good = passing-good states rows accepting total (sym checks)
 
   counted : (a : ℕ) → a < states → held counts a ≡ count (rowTable states rows) a
   counted = prepared .known .counts

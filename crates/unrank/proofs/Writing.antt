@@ -1,12 +1,12 @@
 -- Writing a tree at the front of a lent list, each child into what is left of it. Assumes nothing.
-use Prim.Native.Nat.{ℕ, suc, _+_, _-_, _<_, _≤_}
+use Prim.Native.Nat.{ℕ, _+_, _-_, _<_, _≤_}
 use mathlib.Core.Path.{_≡_, refl, sym, ap, _∙_}
 use mathlib.Core.List.{List, [], _∷_, _++_, append-assoc, append-nil}
 use native.Mathlib.Omega.{arith}
-use native.Mathlib.Numerals.{add-one}
 use lib.ListN.{length, take, drop, set, drop-of-length-le, length-append, length-take, length-drop, length-set}
-use lib.Seq.{take-all, take-at, drop-at, drop-drop, drop-set-lt, set-split}
+use lib.Seq.{take-all, drop-drop, drop-set-lt}
 use Rattle.model.specs.Table.{argsAt}
+use Rattle.model.proofs.Writing.{Writing, writing-length, rest-fits, piece-fits, piece-written, writing-last, one-set}
 use Rattle.unrank.specs.declared.Entered.{Entered}
 use Rattle.unrank.specs.declared.Child.{Child}
 use Rattle.unrank.specs.Ready.{Valued}
@@ -14,60 +14,30 @@ use Rattle.unrank.specs.Trees.{Enters, childOf, entriesIn, Wrote}
 use Rattle.unrank.proofs.Trees.{kidsIn, entries-are}
 use Rattle.unrank.proofs.Children.{Going, args-are, going-begins, going-next, kids-turn, kids-end}
 
--- of all that is to be written, the rest is not written yet; the next place comes after what is
-pub record Writing (old new all rest : List ℕ) (at : ℕ) : Type 0 where
-  pub done : List ℕ
-  pub whole : done ++ rest ≡ all
-  pub place : length done ≡ at
-  pub holds : new ≡ done ++ drop at old
-  pub room : length all ≤ length old
-
-pub writing-first : (old : List ℕ) (x : ℕ) (all rest : List ℕ) → all ≡ x ∷ rest → length all ≤ length old → Writing (set old 0 x) (set old 0 x) all rest 1
-writing-first [] x all rest e l = absurd (omega (arith, ap length e))
-writing-first (y ∷ old) x all rest e l = record { done = x ∷ []; whole = sym e; place = refl; holds = refl; room = l }
-
-module _ {old new all rest : List ℕ} {at : ℕ} (w : Writing old new all rest at) where
-  pub writing-length : length new ≡ length old
-  writing-length =
-      omega (arith, ap length (w .holds), length-append (w .done) (drop at old), length-drop at old, w .place, w .room, ap length (w .whole), length-append (w .done) rest)
-
-  pub rest-fits : at + length rest ≤ length new
-  rest-fits = omega (arith, writing-length, w .place, w .room, ap length (w .whole), length-append (w .done) rest)
-
-  -- what is written stands in front, and the old entries behind it
-  pub front-is : take at new ≡ w .done
-  front-is = ap (λ (l : List ℕ). take at l) (w .holds) ∙ take-at (w .done) (drop at old) at (w .place)
-
-  pub behind-is : drop at new ≡ drop at old
-  behind-is = ap (λ (l : List ℕ). drop at l) (w .holds) ∙ drop-at (w .done) (drop at old) at (w .place)
+-- the first entry is written
+pub symbol-first : (old : List ℕ) (x : ℕ) (all rest : List ℕ) → all ≡ x ∷ rest → length all ≤ length old → Writing (set old 0 x) (set old 0 x) all rest 1
+symbol-first [] x all rest e l = absurd (omega (arith, ap length e))
+symbol-first (y ∷ old) x all rest e l = record { done = x ∷ []; whole = sym e; place = refl; holds = refl; room = l }
 
 -- a piece is written by another, into the part of the list from the next place on
 module _ {old new all : List ℕ} {at : ℕ} (piece rest : List ℕ) (w : Writing old new all (piece ++ rest) at) where
-  fits : at + length piece + length rest ≤ length new
-  fits = omega (arith, rest-fits w, length-append piece rest)
-
   pub part-room : length piece ≤ length (take (length new - at) (drop at new))
-  part-room = omega (arith, fits, length-take (length new - at) (drop at new), length-drop at new)
+  part-room = omega (arith, piece-fits piece rest w, length-take (length new - at) (drop at new), length-drop at new)
 
-  whole-part : take (length new - at) (drop at new) ≡ drop at old
-  whole-part = take-all (length new - at) (drop at new) (omega (arith, length-drop at new)) ∙ behind-is w
+  whole-part : take (length new - at) (drop at new) ≡ drop at new
+  whole-part = take-all (length new - at) (drop at new) (omega (arith, length-drop at new))
 
   none-behind : drop (length new - at) (drop at new) ≡ []
   none-behind = drop-of-length-le (drop at new) {i = length new - at} (omega (arith, length-drop at new))
 
   pub part-put : (ys : List ℕ) (n : ℕ) → n ≡ length piece → ys ≡ piece ++ drop n (take (length new - at) (drop at new))
       → Writing old (take at new ++ (ys ++ drop (length new - at) (drop at new))) all rest (at + n)
-  part-put ys n e h = record {
-    done = w .done ++ piece;
-    whole = append-assoc (w .done) piece rest ∙ w .whole;
-    place = length-append (w .done) piece ∙ (let z : length (w .done) + length piece ≡ at + n = omega (arith, w .place) in z);
-    holds =
-        ap (λ (l : List ℕ). l ++ (ys ++ drop (length new - at) (drop at new))) (front-is w)
-        ∙ ap (λ (l : List ℕ). w .done ++ (ys ++ l)) none-behind
-        ∙ ap (λ (l : List ℕ). w .done ++ l) (append-nil ys ∙ h ∙ ap (λ (l : List ℕ). piece ++ drop n l) whole-part ∙ ap (λ (l : List ℕ). piece ++ l) (drop-drop n at old))
-        ∙ sym (append-assoc (w .done) piece (drop (at + n) old));
-    room = w .room;
-  }
+  part-put ys n e h =
+      piece-written piece rest w _ (at + n)
+      (ap (λ (l : List ℕ). take at new ++ (ys ++ l)) none-behind
+      ∙ ap (λ (l : List ℕ). take at new ++ l) (append-nil ys ∙ h ∙ ap (λ (l : List ℕ). piece ++ drop n l) whole-part ∙ ap (λ (l : List ℕ). piece ++ l) (drop-drop n at new))
+      ∙ sym (append-assoc (take at new) piece (drop (at + n) new))
+      ∙ ap (λ (i : ℕ). take at new ++ piece ++ drop (at + i) new) e) (ap (λ (i : ℕ). at + i) e)
 
 -- the last entry
 module _ {old new all : List ℕ} {at x : ℕ} (w : Writing old new all (x ∷ []) at) where
@@ -79,12 +49,8 @@ module _ {old new all : List ℕ} {at x : ℕ} (w : Writing old new all (x ∷ [
 
   pub last-put : set new at x ≡ all ++ drop (at + 1) old
   last-put =
-      set-split new at x last-fits
-      ∙ ap (λ (l : List ℕ). l ++ x ∷ drop (suc at) new) (front-is w)
-      ∙ ap (λ (i : ℕ). w .done ++ x ∷ drop i new) (sym (add-one at))
-      ∙ ap (λ (l : List ℕ). w .done ++ x ∷ l) (sym (drop-drop 1 at new) ∙ ap (λ (l : List ℕ). drop 1 l) (behind-is w) ∙ drop-drop 1 at old)
-      ∙ sym (append-assoc (w .done) (x ∷ []) (drop (at + 1) old))
-      ∙ ap (λ (l : List ℕ). l ++ drop (at + 1) old) (w .whole)
+      writing-last (piece-written (x ∷ []) [] w (set new at x) (at + 1) (one-set new at x last-fits) refl)
+      ∙ ap (λ (i : ℕ). all ++ drop i old) (sym last-place)
 
 -- the children before k are written
 pub record WritingTree (rows counts : List ℕ) (q value : ℕ) (old args new : List ℕ) (w h at k : ℕ) : Type 0 where
@@ -105,7 +71,7 @@ module _ {rows offsets first after counts sums : List ℕ} {q value : ℕ} (x : 
       → WritingTree rows counts q value (set old 0 (e .symbol)) args (set old 0 (e .symbol)) (e .weight) (e .rest) 1 0
   tree-begins {e} y args h old l = record {
     going = going-begins x y args h;
-    writes = writing-first old (e .symbol) (entriesIn rows counts q value) (kidsIn rows counts q args (e .weight) (e .rest) ++ 0 ∷ [])
+    writes = symbol-first old (e .symbol) (entriesIn rows counts q value) (kidsIn rows counts q args (e .weight) (e .rest) ++ 0 ∷ [])
         (entries-are y ∙ ap (λ (xs : List ℕ). e .symbol ∷ kidsIn rows counts q xs (e .weight) (e .rest) ++ 0 ∷ []) (sym (args-are x y args h))) l;
   }
 

@@ -2,12 +2,11 @@
 use chains::wide;
 use model::Answer;
 use model::Kind;
-use model::Refusal;
+use model::refuse;
 use table::Checked;
 ghost use mathlib.Core.Path.{_≡_};
 ghost use Prim.Native.Nat.{_≤_};
 ghost use lib.ListN.{length};
-ghost use Rattle.model.specs.Answers.{refused, kindNumber, outcome};
 ghost use Rattle.unrank.specs.Ready.{Valued, Numbered};
 ghost use Rattle.unrank.specs.Trees.{Opening, openedAt, Enters, Shared, childOf, entriesIn, Wrote, Listed, spotOf};
 ghost use Rattle.unrank.specs.Written.{WroteNumber, WroteTree};
@@ -201,15 +200,6 @@ fn find_state(accepting: &[u16], counts: &[u64; 256], number: u64) -> Spot
     }
 }
 
-fn refusal(kind: Kind, place: u64) -> Answer
-    ensures { λ r. ⌜ outcome r ≡ refused (kindNumber kind) place ⌝ }
-{
-    Answer::Refused(Refusal {
-        place: place,
-        kind: kind,
-    })
-}
-
 // Writes the tree of a number below the total where it fits.
 fn write_number(
     rows: &[u16],
@@ -230,7 +220,7 @@ fn write_number(
     let value = spot.value;
     let needed = tree_length(rows, offsets, first, after, counts, sums, q, value);
     if tree.len() < needed {
-        return refusal(Kind::ShortTreeList, needed as u64);
+        return Answer::Refused(refuse(Kind::ShortTreeList, needed as u64));
     }
     write_tree(rows, offsets, first, after, counts, sums, q, value, tree);
     Answer::Result(needed as u64)
@@ -263,7 +253,7 @@ pub fn write(states: u64, rows: &[u16], accepting: &[u16], number: u64, tree: &m
     ) {
         Checked::Sound(total, _) => {
             if total <= number {
-                return refusal(Kind::NumberNotBelowTotal, 0);
+                return Answer::Refused(refuse(Kind::NumberNotBelowTotal, 0));
             }
             write_number(
                 rows,

@@ -1,11 +1,12 @@
 use mathlib.Core.Path.{sym, _∙_}
-use Rattle.names.proofs.Bytes.{byte-letter, byte-low, byte-digit, byte-high}
+use Rattle.model.proofs.Bytes.{letter-byte}
+use Rattle.names.proofs.Bytes.{byte-low, byte-digit, byte-high}
 use borrow.Author.Needs.{needs}
 use Rattle.names.proofs.is_name_byte.Statement.{statement}
 use Rattle.names.proofs.is_name_byte.Tie as tie
 
 returns : tie.Need-returns
-returns c = sym (byte-letter _ (sym (c .before .is-letter .ensures) ∙ c .if1 .taken))
+returns c = sym (letter-byte _ (sym (c .before .is-letter .ensures) ∙ c .if1 .taken))
 
 returns-2 : tie.Need-returns-2
 returns-2 c = sym (byte-low _ (sym (c .before .before .is-letter .ensures) ∙ c .before .if1 .left) (c .if2 .taken))

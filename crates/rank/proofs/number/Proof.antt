@@ -1,6 +1,7 @@
 use mathlib.Core.Path.{_∙_}
 use Rattle.table.proofs.Blank.{blank}
-use Rattle.rank.proofs.Tables.{tree-fits, table-refused, number-ready, tree-refused, tree-numbered}
+use Rattle.rank.proofs.Tables.{table-refused, number-ready, tree-refused, tree-numbered}
+use Rattle.tree.proofs.Laws.{list-well}
 use borrow.Author.Needs.{needs}
 use Rattle.rank.proofs.number.Statement.{statement}
 use Rattle.rank.proofs.number.Tie as tie
@@ -9,7 +10,7 @@ check-into-requires : tie.Need-check-into-requires
 check-into-requires c κs = blank
 
 number-tree-requires : tie.Need-number-tree-requires
-number-tree-requires c κs = (number-ready _ (c .before .before .before .before .before .before .before .before .before .before .before .before .before .before .before .before .before .before .before .before .before .before .before .args .tree .now) (c .before .before .before .before .before .before .before .before .before .before .before .check-into .ensures) _ _ (c .before .before .before .before .before .before .before .before .before .n .given .1), tree-fits (c .before .before .before .before .before .before .before .check-tree .ensures) (c .before .before .before .before .before .enum-told .given .1))
+number-tree-requires c κs = (number-ready _ (c .before .before .before .before .before .before .before .before .before .before .before .before .before .before .before .before .before .before .before .before .before .before .before .args .tree .now) (c .before .before .before .before .before .before .before .before .before .before .before .check-into .ensures) _ _ (c .before .before .before .before .before .before .before .before .before .n .given .1), list-well (c .before .before .before .before .before .before .before .check-tree .ensures) (c .before .before .before .before .before .enum-told .given .1))
 
 returns : tie.Need-returns
 returns c = table-refused _ _ (c .before .before .before .check-into .ensures) _ (c .before .r .given .1)

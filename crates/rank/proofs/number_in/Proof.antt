@@ -1,5 +1,6 @@
 use native.Mathlib.Omega.{arith}
 use Prim.Native.Nat.{_-_, _<_}
+use mathlib.Core.Path.{_∙_}
 use lib.ListN.{length}
 use Rattle.rank.proofs.Summing.{Summing, sum-begins, sum-goes, sum-fits, listed-here, not-listed}
 use Rattle.rank.proofs.number_in.Statement.{statement}
@@ -35,7 +36,7 @@ loop-again : tie.Need-loop-again Inv-loop μ-loop
 loop-again c = sum-goes (c .before .before .before .before .before .before .loop .inv) (c .before .before .before .before .before .loop-test .taken) _ (c .before .wide .ensures) (c .before .before .before .if1 .left)
 
 returns-2 : tie.Need-returns-2 Inv-loop μ-loop
-returns-2 c = not-listed (c .before .loop .inv) (c .loop-test .left) _
+returns-2 c = c .refuse .ensures ∙ not-listed (c .before .before .loop .inv) (c .before .loop-test .left) _
 
 pub number-in-spec : {M : Type 1} → statement M
 number-in-spec =
@@ -56,4 +57,5 @@ number-in-spec =
     (λ c. search needs)
     (λ c. search needs)
     loop-again
+    (λ c κs. search needs)
     returns-2)

@@ -1,4 +1,5 @@
 -- One ground after the other, in the order of document 01.
+use mathlib.Core.Path.{_∙_}
 use Rattle.model.proofs.Numbers.{kind-positive}
 use Rattle.table.proofs.Outcomes.{too-many, row-refused, entry-refused, list-refused, refused-answer, states-answer}
 use borrow.Author.Needs.{needs}
@@ -6,13 +7,14 @@ use Rattle.table.proofs.check_into.Statement.{statement}
 use Rattle.table.proofs.check_into.Tie as tie
 
 returns : tie.Need-returns
-returns c = refused-answer _ _ _ (c .refuses .ensures) (too-many _ _ _ (c .before .if1 .taken))
+returns c = refused-answer _ (c .refuse .ensures ∙ too-many _ _ _ (c .before .if1 .taken))
 
 returns-2 : tie.Need-returns-2
 returns-2 c =
     let w = c .before .before .before .before .before .before .before .before .check-rows .ensures .passed _ (c .before .before .before .before .before .before .n .given .1) in
-    refused-answer _ _ _ (c .refuses4 .ensures)
-    (list-refused _ _ _ (c .before .before .before .before .before .before .before .before .before .before .before .before .if1 .left) (rw (w .0) at (w .3)) (c .before .before .before .before .faulty-entry .ensures .none (c .before .before .enum-told .given .1)) (c .before .if2 .taken))
+    refused-answer _
+    (c .refuse4 .ensures
+    ∙ list-refused _ _ _ (c .before .before .before .before .before .before .before .before .before .before .before .before .if1 .left) (rw (w .0) at (w .3)) (c .before .before .before .before .faulty-entry .ensures .none (c .before .before .enum-told .given .1)) (c .before .if2 .taken))
 
 check-states-requires : tie.Need-check-states-requires
 check-states-requires c κs =
@@ -33,13 +35,14 @@ check-states-requires c κs =
 
 returns-3 : tie.Need-returns-3
 returns-3 c =
-    refused-answer _ _ _ (c .refuses2 .ensures)
-    (row-refused _ _ _ (c .before .before .before .before .before .before .before .before .if1 .left) _ _ (c .before .before .before .before .check-rows .ensures .stopped _ _ (c .before .before .r .given .1)) (kind-positive (c .before .before .r .given .0 .1 .0)))
+    refused-answer _
+    (c .refuse2 .ensures
+    ∙ row-refused _ _ _ (c .before .before .before .before .before .before .before .before .if1 .left) _ _ (c .before .before .before .before .check-rows .ensures .stopped _ _ (c .before .before .r .given .1)) (kind-positive (c .before .before .r .given .0 .1 .0)))
 
 returns-4 : tie.Need-returns-4
 returns-4 c =
     let w = c .before .before .before .before .before .before .before .before .check-rows .ensures .passed _ (c .before .before .before .before .before .before .n .given .1) in
-    refused-answer _ _ _ (c .refuses3 .ensures) (entry-refused _ _ _ (c .before .before .before .before .before .before .before .before .before .before .before .before .if1 .left) (rw (w .0) at (w .3)) _ (c .before .before .before .before .faulty-entry .ensures .some _ (c .before .before .i .given .1)))
+    refused-answer _ (c .refuse3 .ensures ∙ entry-refused _ _ _ (c .before .before .before .before .before .before .before .before .before .before .before .before .if1 .left) (rw (w .0) at (w .3)) _ (c .before .before .before .before .faulty-entry .ensures .some _ (c .before .before .i .given .1)))
 
 returns-5 : tie.Need-returns-5
 returns-5 c =

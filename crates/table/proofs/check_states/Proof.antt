@@ -31,10 +31,10 @@ sum-of-requires : tie.Need-sum-of-requires
 sum-of-requires c κs = entries-within (c .before .before .before .before .before .before .before .before .before .before .before .before .before .before .pre .few) (c .before .before .before .before .before .before .before .before .before .before .before .before .before .before .pre .entries-fine) (c .before .before .before .count-states .ensures .all (c .before .enum-told .given .1))
 
 returns : tie.Need-returns
-returns c = states-over (c .before .before .before .before .before .before .before .before .before .before .before .before .before .before .before .before .before .pre) (c .before .before .before .before .before .before .count-states .ensures .all (c .before .before .before .before .enum-told .given .1)) _ (c .before .before .sum-of .ensures) _ (c .before .if1 .taken) (c .refuses2 .ensures)
+returns c = states-over (c .before .before .before .before .before .before .before .before .before .before .before .before .before .before .before .before .before .pre) (c .before .before .before .before .before .before .count-states .ensures .all (c .before .before .before .before .enum-told .given .1)) _ (c .before .before .sum-of .ensures) _ (c .before .if1 .taken) (c .refuse2 .ensures)
 
 returns-2 : tie.Need-returns-2
-returns-2 c = states-fault (c .before .before .before .before .before .before .before .before .before .before .before .before .before .before .before .pre) _ _ _ (c .refuses .ensures) (c .before .before .before .before .count-states .ensures .fault _ _ (c .before .before .q .given .1))
+returns-2 c = states-fault (c .before .before .before .before .before .before .before .before .before .before .before .before .before .before .before .pre) _ (c .before .before .q .given .0 .1 .0) _ (c .refuse .ensures) (c .before .before .before .before .count-states .ensures .fault _ _ (c .before .before .q .given .1))
 
 returns-3 : tie.Need-returns-3
 returns-3 c = states-pass (c .before .before .before .before .before .before .before .before .before .before .before .before .before .before .before .before .pre) (c .before .before .before .before .before .count-states .ensures .all (c .before .before .before .enum-told .given .1)) _ (c .before .sum-of .ensures) (c .if1 .left) (c .before .before .before .before .before .before .before .before .before .before .before .chain-rows .ensures)

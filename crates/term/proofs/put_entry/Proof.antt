@@ -6,7 +6,7 @@ use mathlib.Core.List.{List, _∷_}
 use lib.ListN.{length, length-set}
 use Rattle.model.specs.Names.{nameOf}
 use Rattle.term.specs.Emit.{lettering}
-use Rattle.term.proofs.Writing.{put-one, put-none, put-length}
+use Rattle.term.proofs.Pieces.{put-one, put-none, put-length}
 use Rattle.term.proofs.Lettering.{letter-close, letter-bar, letter-name, letter-mark, name-line, marked}
 use borrow.Author.Needs.{needs}
 use Rattle.term.proofs.put_entry.Statement.{statement}

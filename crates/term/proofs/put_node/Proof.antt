@@ -1,6 +1,6 @@
 use native.Mathlib.Omega.{arith}
 use lib.ListN.{length-set}
-use Rattle.term.proofs.Writing.{node-leaf, node-opens, node-room, leaf-room}
+use Rattle.term.proofs.Pieces.{node-leaf, node-opens, node-room, leaf-room}
 use borrow.Author.Needs.{needs}
 use Rattle.term.proofs.put_node.Statement.{statement}
 use Rattle.term.proofs.put_node.Tie as tie

@@ -1,6 +1,6 @@
 use Prim.Native.Nat.{_-_}
 use lib.ListN.{length}
-use Rattle.term.proofs.Writing.{writing-length}
+use Rattle.model.proofs.Writing.{writing-length}
 use Rattle.term.proofs.Lettering.{Lettered, letter-first, letter-fits, letter-put, letter-last}
 use Rattle.term.proofs.put_text.Statement.{statement}
 use borrow.Author.Needs.{needs}

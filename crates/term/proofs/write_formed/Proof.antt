@@ -1,4 +1,4 @@
-use mathlib.Core.Path.{refl, sym, _∙_}
+use mathlib.Core.Path.{sym, _∙_}
 use Rattle.term.proofs.Outcomes.{gave-refused, gave-same, unnamed, all-named, named-low}
 use borrow.Author.Needs.{needs}
 use Rattle.term.proofs.write_formed.Statement.{statement}
@@ -8,7 +8,7 @@ write-letters-requires : tie.Need-write-letters-requires
 write-letters-requires c κs = (c .before .before .before .before .before .before .before .pre .0, (named-low (c .before .before .before .before .before .before .before .args .names .now) _ _ 0 (c .before .before .before .before .before .before .before .pre .1 .0) (c .before .before .before .before .before .before .before .pre .1 .1 .1) (sym (c .before .before .before .first-unnamed .ensures) ∙ c .before .enum-told .given .1), c .before .before .before .before .before .before .before .pre .1 .1 .0))
 
 returns : tie.Need-returns
-returns c = gave-refused 23 _ refl (unnamed _ _ _ _ (c .before .before .before .before .before .before .before .pre .1 .0) _ (sym (c .before .before .before .first-unnamed .ensures) ∙ c .before .place .given .1))
+returns c = gave-refused _ (c .refuse .ensures ∙ unnamed _ _ _ _ (c .before .before .before .before .before .before .before .before .pre .1 .0) _ (sym (c .before .before .before .before .first-unnamed .ensures) ∙ c .before .before .place .given .1))
 
 returns-2 : tie.Need-returns-2
 returns-2 c = gave-same (all-named _ _ _ _ (c .before .before .before .before .before .before .before .before .before .before .pre .1 .0) (sym (c .before .before .before .before .before .before .first-unnamed .ensures) ∙ c .before .before .before .before .enum-told .given .1)) (c .before .before .write-letters .ensures)
@@ -19,6 +19,7 @@ write-formed-spec =
     (tie.spec
     (λ c κs. search needs)
     (λ c. search needs)
+    (λ c κs. search needs)
     (λ c. search needs)
     write-letters-requires
     returns

@@ -1,4 +1,4 @@
-use mathlib.Core.Path.{refl}
+use mathlib.Core.Path.{refl, _∙_}
 use native.Mathlib.Omega.{arith}
 use Rattle.term.proofs.Outcomes.{gave-refused, gave-result, short-text, text-fits, lettered-front}
 use borrow.Author.Needs.{needs}
@@ -6,7 +6,7 @@ use Rattle.term.proofs.write_letters.Statement.{statement}
 use Rattle.term.proofs.write_letters.Tie as tie
 
 returns : tie.Need-returns
-returns c = gave-refused 24 _ refl (short-text _ _ _ _ (c .before .before .before .before .before .pre .1 .1) (c .before .text-length .ensures) (c .if1 .taken))
+returns c = gave-refused _ (c .refuse .ensures ∙ short-text _ _ _ _ (c .before .before .before .before .before .before .pre .1 .1) (c .before .before .text-length .ensures) (c .before .if1 .taken))
 
 put-text-requires : tie.Need-put-text-requires
 put-text-requires c κs = (c .before .before .before .before .before .before .pre .0, (c .before .before .before .before .before .before .pre .1 .0, omega (arith, c .before .before .text-length .ensures, c .before .if1 .left)))
@@ -16,4 +16,4 @@ returns-2 c = gave-result _ refl (text-fits _ _ _ _ (c .before .before .before .
 
 pub write-letters-spec : {M : Type 1} → statement M
 write-letters-spec =
-    tie.close (tie.spec (λ c κs. search needs) returns put-text-requires (λ c. search needs) returns-2)
+    tie.close (tie.spec (λ c κs. search needs) (λ c κs. search needs) returns put-text-requires (λ c. search needs) returns-2)

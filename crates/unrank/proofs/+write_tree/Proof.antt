@@ -5,7 +5,8 @@ use mathlib.Core.Path.{refl, _∙_}
 use lib.ListN.{length, length-set}
 use borrow.Author.Needs.{needs}
 use Rattle.unrank.proofs.Children.{row-whole, shared, child-lower, child-valued}
-use Rattle.unrank.proofs.Writing.{rest-fits, WritingTree, tree-kept, some-entry, tree-begins, child-room, child-place, tree-next, bar-fits, tree-ends}
+use Rattle.model.proofs.Writing.{rest-fits}
+use Rattle.unrank.proofs.Writing.{WritingTree, tree-kept, some-entry, tree-begins, child-room, child-place, tree-next, bar-fits, tree-ends}
 use borrow.Fn.Kinds.{In}
 use borrow.Fn.PlainCycle.{Measures, is, falls, and}
 use Rattle.unrank.proofs.write_tree.Reads as write-tree

@@ -1,74 +1,23 @@
--- Writing at the front of a lent list, piece by piece. Assumes nothing.
+-- Pieces put at a place of a lent list. Assumes nothing.
 use Prim.Native.Nat.{ℕ, _+_, _-_, _<_, _≤_}
 use mathlib.Core.Path.{_≡_, refl, sym, ap, _∙_}
 use mathlib.Core.List.{List, [], _∷_, _++_, append-assoc, append-nil}
 use native.Mathlib.Omega.{arith}
-use native.Mathlib.Numerals.{add-one}
 use mathlib.Core.Bool.{Bool, true, false}
 use lib.ListN.{length, take, drop, set, length-append, length-drop, length-set, take-append-drop}
-use lib.Seq.{length-take-le, drop-at, take-at, drop-drop, drop-append-add, append-snoc, set-split}
+use lib.Seq.{length-take-le, drop-at, take-at, drop-drop}
+use Rattle.model.proofs.Writing.{Writing, piece-written, one-set}
 use Rattle.term.specs.Emit.{nodeEntries}
-use Rattle.term.specs.Written.{Put, Front}
+use Rattle.term.specs.Written.{Put}
 
--- of all that is to be written, the rest is not written yet; the next place comes after what is
-pub record Writing (old new all rest : List ℕ) (at : ℕ) : Type 0 where
-  pub done : List ℕ
-  pub whole : done ++ rest ≡ all
-  pub place : length done ≡ at
-  pub holds : new ≡ done ++ drop at old
-  pub room : length all ≤ length old
-
-pub writing-first : (old all : List ℕ) → length all ≤ length old → Writing old old all all 0
-writing-first old all l = record { done = []; whole = refl; place = refl; holds = refl; room = l }
-
-module _ {old new all : List ℕ} {at : ℕ} (piece rest : List ℕ) (w : Writing old new all (piece ++ rest) at) where
-  lengths : (at + length piece + length rest ≡ length all) × (length new ≡ length old)
-  lengths =
-      let a = ap length (w .whole) in
-      let b = length-append (w .done) (piece ++ rest) in
-      let c = length-append piece rest in
-      let d = ap length (w .holds) in
-      let e = length-append (w .done) (drop at old) in
-      let f = length-drop at old in
-      (omega (arith, w .place), omega (arith, w .place, w .room))
-
-  -- there is room for the piece
-  pub piece-fits : at + length piece ≤ length new
-  piece-fits = omega (arith, lengths, w .room)
-
-  pub piece-put : (new′ : List ℕ) (next : ℕ) → Put new new′ piece at next → Writing old new′ all rest next
-  piece-put new′ next p = record {
-    done = w .done ++ piece;
-    whole = append-assoc (w .done) piece rest ∙ w .whole;
-    place = length-append (w .done) piece ∙ (let z : length (w .done) + length piece ≡ next = omega (arith, w .place, p .after) in z);
-    holds =
-        p .holds
-        ∙ ap (λ (x : List ℕ). x ++ piece ++ drop (at + length piece) new) (ap (λ (x : List ℕ). take at x) (w .holds) ∙ take-at (w .done) (drop at old) at (w .place))
-        ∙ ap (λ (x : List ℕ). w .done ++ piece ++ x) tail;
-    room = w .room;
-  }
-    where
-      tail : drop (at + length piece) new ≡ drop next old
-      tail =
-          ap (λ (x : List ℕ). drop (at + length piece) x) (w .holds)
-          ∙ ap (λ (i : ℕ). drop (i + length piece) (w .done ++ drop at old)) (sym (w .place))
-          ∙ drop-append-add (w .done) (drop at old) (length piece)
-          ∙ drop-drop (length piece) at old
-          ∙ ap (λ (i : ℕ). drop i old) (sym (p .after))
-
--- the list keeps its length
-pub writing-length : {old new all rest : List ℕ} {at : ℕ} → Writing old new all rest at → length new ≡ length old
-writing-length {old} {new} {all} {rest} {at} w = lengths [] rest w .1
-
--- all is written
-pub writing-last : {old new all : List ℕ} {at : ℕ} → Writing old new all [] at → Front old new all
-writing-last {old} {new} {all} {at} w =
-    let d : w .done ≡ all = sym (append-nil (w .done)) ∙ w .whole in
-    record { holds = w .holds ∙ ap (λ (i : ℕ). w .done ++ drop i old) (sym (w .place)) ∙ ap (λ (x : List ℕ). x ++ drop (length x) old) d }
+-- a piece put at the next place
+pub piece-put : {old new all : List ℕ} {at : ℕ} (piece rest : List ℕ) → Writing old new all (piece ++ rest) at → (new′ : List ℕ) (next : ℕ) → Put new new′ piece at next
+    → Writing old new′ all rest next
+piece-put piece rest w new′ next p = piece-written piece rest w new′ next (p .holds) (p .after)
 
 -- one item
 pub put-one : (old : List ℕ) (at x : ℕ) → at < length old → Put old (set old at x) (x ∷ []) at (at + 1)
-put-one old at x l = record { holds = set-split old at x l ∙ ap (λ (i : ℕ). take at old ++ x ∷ drop i old) (sym (add-one at)) ∙ sym (append-snoc (take at old) x (drop (at + 1) old)); after = refl }
+put-one old at x l = record { holds = one-set old at x l; after = refl }
 
 -- nothing
 pub put-none : (old : List ℕ) (at : ℕ) → at ≤ length old → Put old old [] at at
