@@ -193,6 +193,34 @@ pub entries-few : (states : ℕ) (accepting : List ℕ) → ((i : ℕ) → i < l
 entries-few states accepting h =
     once-few states accepting (λ i l. entry-good states accepting i (h i l) .0) (entries-once states accepting h)
 
+-- rows and accepting entries for which no ground holds, whatever the states count
+module _ (states : ℕ) (rows accepting : List ℕ) (good-rows : (i : ℕ) → i < howManyRows rows → rowGround states rows i ≡ 0)
+    (good-entries : (i : ℕ) → i < length (acceptingStates accepting) → acceptingGround states (acceptingStates accepting) i ≡ 0) where
+  pub sound-good : Good (tableOf states rows accepting)
+  sound-good =
+      record {
+        symbols = λ i l. rw (rowsOf-at rows i noRow (within i l)) (let r = row i (within i l) .in-range in (r .low, r .high));
+        targets = λ i l. rw (rowsOf-at rows i noRow (within i l)) (row i (within i l) .in-range .target-fits);
+        ordered = λ i l. rw (rowsOf-at rows i noRow (within i l)) (row i (within i l) .ordered);
+        distinct = λ i j li lj s x. two i j (within i li) (within j lj)
+            (rw (rowsOf-at rows i noRow (within i li), rowsOf-at rows j noRow (within j lj)) at s)
+            (rw (rowsOf-at rows i noRow (within i li), rowsOf-at rows j noRow (within j lj)) at x);
+        listed = λ i l. entry-good states accepting i (good-entries i l) .0;
+        once = entries-once states accepting good-entries;
+      }
+    where
+      row : (i : ℕ) → i < howManyRows rows → GoodRow states rows i
+      row i l = row-good states rows i (good-rows i l)
+
+      within : (i : ℕ) → i < length (rowsOf rows) → i < howManyRows rows
+      within i l = rw (rowsOf-length rows) at l
+
+      two : (i j : ℕ) → i < howManyRows rows → j < howManyRows rows → rowNumbered rows i .symbol ≡ rowNumbered rows j .symbol
+          → rowNumbered rows i .args ≡ rowNumbered rows j .args → i ≡ j
+      two i j li lj s x =
+          apart (howManyRows rows) (λ i j. (rowNumbered rows i .symbol ≡ rowNumbered rows j .symbol) × (rowNumbered rows i .args ≡ rowNumbered rows j .args))
+          (λ i l j m r. row i l .fresh j m (r .0) (r .1)) i j li lj (s, x) (sym s, sym x)
+
 module _ (limit states : ℕ) (rows accepting : List ℕ) (g : NoGround limit states rows accepting) where
   pub checked-row : (i : ℕ) → i < howManyRows rows → GoodRow states rows i
   checked-row i l = row-good states rows i (g .good-rows i l)
@@ -202,26 +230,7 @@ module _ (limit states : ℕ) (rows accepting : List ℕ) (g : NoGround limit st
   checked-packed = pack-rowsOf rows (λ i l. checked-row i l .whole)
 
   pub checked-good : Good (tableOf states rows accepting)
-  checked-good =
-      record {
-        symbols = λ i l. rw (rowsOf-at rows i noRow (within i l)) (let r = checked-row i (within i l) .in-range in (r .low, r .high));
-        targets = λ i l. rw (rowsOf-at rows i noRow (within i l)) (checked-row i (within i l) .in-range .target-fits);
-        ordered = λ i l. rw (rowsOf-at rows i noRow (within i l)) (checked-row i (within i l) .ordered);
-        distinct = λ i j li lj s x. two i j (within i li) (within j lj)
-            (rw (rowsOf-at rows i noRow (within i li), rowsOf-at rows j noRow (within j lj)) at s)
-            (rw (rowsOf-at rows i noRow (within i li), rowsOf-at rows j noRow (within j lj)) at x);
-        listed = λ i l. entry-good states accepting i (g .good-entries i l) .0;
-        once = entries-once states accepting (g .good-entries);
-      }
-    where
-      within : (i : ℕ) → i < length (rowsOf rows) → i < howManyRows rows
-      within i l = rw (rowsOf-length rows) at l
-
-      two : (i j : ℕ) → i < howManyRows rows → j < howManyRows rows → rowNumbered rows i .symbol ≡ rowNumbered rows j .symbol
-          → rowNumbered rows i .args ≡ rowNumbered rows j .args → i ≡ j
-      two i j li lj s x =
-          apart (howManyRows rows) (λ i j. (rowNumbered rows i .symbol ≡ rowNumbered rows j .symbol) × (rowNumbered rows i .args ≡ rowNumbered rows j .args))
-          (λ i l j m r. checked-row i l .fresh j m (r .0) (r .1)) i j li lj (s, x) (sym s, sym x)
+  checked-good = sound-good states rows accepting (g .good-rows) (g .good-entries)
 
   pub checked-within : Within limit (tableOf states rows accepting)
   checked-within =

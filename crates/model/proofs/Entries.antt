@@ -4,6 +4,7 @@ use Prim.Native.Nat.{ℕ, zero, suc, _+_, _-_, _*_, _≤_, _<_}
 use mathlib.Core.Path.{_≡_, refl, ap, sym, _∙_}
 use mathlib.Core.Bool.{Bool, true, false, _&&_, _||_}
 use mathlib.Core.List.{List, [], _∷_, _++_, append-assoc, append-nil}
+use mathlib.Core.Logic.{_⊎_, inl, inr}
 use native.Mathlib.Omega.{arith}
 use native.Mathlib.Nat.{not-suc-le-zero, pos-of-ne-zero}
 use lib.ListN.{length, getD, take, drop, replicate, length-append, length-drop, take-append-drop, List·getD-append}
@@ -321,23 +322,25 @@ stops-short entries h e =
       short = λ w. not-both (endsTooSoon entries) e (well-formed entries w .enough);
     }
 
--- a refusal is 13, at the first entry with which no tree can go on, or at the list's length if it ends too soon
-pub form-place : (entries : List ℕ) (t p k : ℕ) → formOr entries (result t) ≡ refused k p → (k ≡ 13) × StopsAt WellFormed entries p
+-- a refusal is 13, at the first entry with which no tree can go on, or at the list's length if it ends too soon; or the list is a tree, and
+-- what follows is the refusal
+pub form-place : (entries : List ℕ) (k p : ℕ) (o : Outcome) → formOr entries o ≡ refused k p
+    → ((k ≡ 13) × StopsAt WellFormed entries p) ⊎ (WellFormed entries × (o ≡ refused k p))
 unfolding formOr
-form-place entries t p k e = go (decided (length entries) (entryGround entries) (shortOr entries (result t)))
+form-place entries k p o e = go (decided (length entries) (entryGround entries) (shortOr entries o))
   where
     ends : (b : Bool) → endsTooSoon entries ≡ b → ((i : ℕ) → i < length entries → entryGround entries i ≡ 0)
-        → (if b then refused 13 (length entries) else result t) ≡ refused k p → (k ≡ 13) × StopsAt WellFormed entries p
-    ends true y h d = (sym (refused-number d), rw (← refused-place d) (stops-short entries h y))
-    ends false y h d = let z : _≡_ {A = ℕ} 0 1 = cc in absurd (omega arith)
+        → (if b then refused 13 (length entries) else o) ≡ refused k p
+        → ((k ≡ 13) × StopsAt WellFormed entries p) ⊎ (WellFormed entries × (o ≡ refused k p))
+    ends true y h d = inl (sym (refused-number d), rw (← refused-place d) (stops-short entries h y))
+    ends false y h d = inr (formed-well entries (record { sound = h; enough = y }), d)
 
-    go : Decided (length entries) (entryGround entries) (shortOr entries (result t))
-        (firstFaulty (length entries) (entryGround entries) (shortOr entries (result t)))
-        → (k ≡ 13) × StopsAt WellFormed entries p
+    go : Decided (length entries) (entryGround entries) (shortOr entries o) (firstFaulty (length entries) (entryGround entries) (shortOr entries o))
+        → ((k ≡ 13) × StopsAt WellFormed entries p) ⊎ (WellFormed entries × (o ≡ refused k p))
     go (clear h d) = ends (endsTooSoon entries) refl h (sym d ∙ e)
     go (faulty i l h g d) =
         let r = sym d ∙ e in
-        (sym (refused-number r) ∙ ground-13 entries i g, rw (← refused-place r) (stops-fault entries i l h g))
+        inl (sym (refused-number r) ∙ ground-13 entries i g, rw (← refused-place r) (stops-fault entries i l h g))
 
 -- ---- the tree of a list
 

@@ -16,6 +16,7 @@ pub mod Serial
 pub mod States
 pub mod Values
 pub mod Pairing
+pub mod Limits
 pub mod Stuck
 pub mod Entries
 pub mod Demand3
@@ -24,5 +25,8 @@ pub mod Scan
 pub mod Names
 pub mod Listed
 pub mod Inverse
+pub mod TermRefusals
 pub mod TermExamples
 pub mod Starred
+pub mod Edges
+pub mod TableExamples

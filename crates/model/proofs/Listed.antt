@@ -21,25 +21,25 @@ use Rattle.model.proofs.Names.{Sound, name-is}
 
 -- ---- what follows a name
 
-brackets-stop : (f : Terms) (ys : List ℕ) → NoByte ys → NoByte (bracketed f ++ ys)
+pub brackets-stop : (f : Terms) (ys : List ℕ) → NoByte ys → NoByte (bracketed f ++ ys)
 brackets-stop none ys h = h
 brackets-stop (term n inner right) ys h = open-no-byte
 
-comma-stop : (f : Terms) (ys : List ℕ) → NoByte ys → NoByte (following f ++ ys)
+pub comma-stop : (f : Terms) (ys : List ℕ) → NoByte ys → NoByte (following f ++ ys)
 comma-stop none ys h = h
 comma-stop (term n inner right) ys h = comma-no-byte
 
 -- a run begins at byte i, where the byte before the bytes is a name byte or not
-abbrev begins : (inside : Bool) → List ℕ → ℕ → Bool
+abbrev pub begins : (inside : Bool) → List ℕ → ℕ → Bool
 begins inside bs zero = isNameByte (getD bs 0 0) && not inside
 begins inside bs (suc i) = nameBegins bs (suc i)
 
-begins-next : (inside : Bool) (b : ℕ) (bs : List ℕ) (i : ℕ) → begins inside (b ∷ bs) (suc i) ≡ begins (isNameByte b) bs i
+pub begins-next : (inside : Bool) (b : ℕ) (bs : List ℕ) (i : ℕ) → begins inside (b ∷ bs) (suc i) ≡ begins (isNameByte b) bs i
 unfolding nameBegins
 begins-next inside b bs zero = refl
 begins-next inside b bs (suc i) = refl
 
-begins-first : (text : List ℕ) (i : ℕ) → nameBegins text i ≡ begins false text i
+pub begins-first : (text : List ℕ) (i : ℕ) → nameBegins text i ≡ begins false text i
 unfolding nameBegins
 begins-first text zero = sym (and-yes (isNameByte (getD text 0 0)))
 begins-first text (suc i) = refl
@@ -245,7 +245,7 @@ pub low-symbol : (names tree : List ℕ) (i : ℕ) → getD tree i 0 ≤ howMany
 unfolding symbolGround
 low-symbol names tree i l = if-no _ 23 0 (le-ltb (howManyNames names) (getD tree i 0) l)
 
-terms-length : (n : List ℕ) (inner right : Terms)
+pub terms-length : (n : List ℕ) (inner right : Terms)
     → length (textOfTerms (term n inner right)) ≡ length n + length (bracketed inner) + length (following right)
 unfolding textOfTerms
 terms-length n inner right = simp length-append

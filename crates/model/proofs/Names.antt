@@ -56,24 +56,24 @@ some-lines (b ∷ bs) h = go (eqb b 10) (linesOf bs)
     go false [] = omega arith
     go false (l ∷ ls) = omega arith
 
-line-clear : (names : List ℕ) → Sound names → (k : ℕ) → k < howManyNames names → lineGround names k ≡ 0
+-- what a line without a ground is
+pub record SoundLine (names : List ℕ) (k : ℕ) : Type 0 where
+  pub name : isName (lineAt names k .bytes) ≡ true
+  pub apart : (j : ℕ) → j < k → sameName (lineAt names j .bytes) (lineAt names k .bytes) ≡ false
+  pub few : k < 255
+  pub ended : lineAt names k .ended ≡ true
+
+pub line-clear : (names : List ℕ) (k : ℕ) → SoundLine names k → lineGround names k ≡ 0
 unfolding lineGround
-line-clear names s k l =
+line-clear names k s =
     rw (
-      s .line-name k l,
-      any-none k (λ j. sameName (lineAt names j .bytes) (lineAt names k .bytes)) (λ j m. s .apart j k m l),
-      lt-leb 255 k (omega (arith, s .few)),
-      s .line-ended k l,
+      s .name,
+      any-none k (λ j. sameName (lineAt names j .bytes) (lineAt names k .bytes)) (s .apart),
+      lt-leb 255 k (s .few),
+      s .ended,
     )
 
--- what a line without a ground is
-record SoundLine (names : List ℕ) (k : ℕ) : Type 0 where
-  name : isName (lineAt names k .bytes) ≡ true
-  apart : (j : ℕ) → j < k → sameName (lineAt names j .bytes) (lineAt names k .bytes) ≡ false
-  few : k < 255
-  ended : lineAt names k .ended ≡ true
-
-clear-line : (names : List ℕ) (k : ℕ) → lineGround names k ≡ 0 → SoundLine names k
+pub clear-line : (names : List ℕ) (k : ℕ) → lineGround names k ≡ 0 → SoundLine names k
 unfolding lineGround
 clear-line names k e =
     let equal : ℕ → Bool = λ j. sameName (lineAt names j .bytes) (lineAt names k .bytes) in
@@ -88,12 +88,27 @@ clear-line names k e =
       ended = not-false (lineAt names k .ended) (q .1);
     }
 
+-- a list is sound just where it has lines, each without a ground
+pub sound-line : (names : List ℕ) → Sound names → (k : ℕ) → k < howManyNames names → SoundLine names k
+sound-line names s k l =
+    record { name = s .line-name k l; apart = λ j m. s .apart j k m l; few = omega (arith, s .few); ended = s .line-ended k l }
+
+pub lines-sound : (names : List ℕ) → 0 < howManyNames names → ((k : ℕ) → k < howManyNames names → SoundLine names k) → Sound names
+lines-sound names some line =
+    record {
+      some = some;
+      few = omega (arith, line (howManyNames names - 1) (omega arith) .few);
+      line-name = λ k l. line k l .name;
+      line-ended = λ k l. line k l .ended;
+      apart = λ j k m l. line k l .apart j m;
+    }
+
 -- a sound list is taken
 pub names-taken : (names : List ℕ) → Sound names → (o : Outcome) → namesOr names o ≡ o
 unfolding namesOr
 names-taken names s o =
     if-no (eqb (length names) 0) (refused 17 0) _ (ne-eqb (length names) 0 (no-lines names (s .some)))
-    ∙ no-fault (howManyNames names) (lineGround names) o (line-clear names s)
+    ∙ no-fault (howManyNames names) (lineGround names) o (λ k l. line-clear names k (sound-line names s k l))
 
 -- a list that is taken is sound
 pub names-back : (names : List ℕ) (t : ℕ) (o : Outcome) → namesOr names o ≡ result t → Sound names × (o ≡ result t)
@@ -101,17 +116,7 @@ unfolding namesOr
 names-back names t o e =
     let p = if-result (eqb (length names) 0) 17 0 t _ e in
     let q = no-fault-back (howManyNames names) t (lineGround names) o (p .1) in
-    let some : 0 < howManyNames names = some-lines names (eqb-false (length names) 0 (p .0)) in
-    let line : (k : ℕ) → k < howManyNames names → SoundLine names k = λ k l. clear-line names k (q .0 k l) in (
-      record {
-        some = some;
-        few = omega (arith, line (howManyNames names - 1) (omega arith) .few);
-        line-name = λ k l. line k l .name;
-        line-ended = λ k l. line k l .ended;
-        apart = λ j k m l. line k l .apart j m;
-      },
-      q .1,
-    )
+    (lines-sound names (some-lines names (eqb-false (length names) 0 (p .0))) (λ k l. clear-line names k (q .0 k l)), q .1)
 
 -- ---- a list is sound exactly if it is a names list
 

@@ -8,12 +8,14 @@ pub mod Count
 pub mod Value
 pub mod Order
 pub mod Check
+pub mod Limits
 pub mod Names
 pub mod Entries
 pub mod Term
 pub mod TermOperations
 pub mod Place
 pub mod Inverse
+pub mod TermRefusals
 pub mod Number
 pub mod Write
 pub mod Demand3

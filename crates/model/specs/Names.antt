@@ -98,8 +98,8 @@ lineGround names k =
     || not (lineAt names k .ended)
     then 17 else 0
 
--- "A names list against the rules above is 17, the place being its first faulty line, or 0 if it is empty"; where it keeps to the rules
--- (the law `names-exactly`), what follows
+-- "A names list against the rules above is 17, the place being its first faulty line, or 0 if it is empty" (what the place is: the law
+-- `names-place`); where it keeps to the rules (the law `names-exactly`), what follows
 unfoldable pub namesOr : List ℕ → Outcome → Outcome
 namesOr names otherwise =
     if eqb (length names) 0 then refused 17 0 else

@@ -14,7 +14,7 @@ pub record CanGoOn (Whole : List ℕ → Type 0) (items : List ℕ) : Type 0 whe
 
 -- "the first byte with which no term can go on, or the text's length if it ends too soon" (19, the law `scan-place`), and what
 -- follows for 13 (the law `form-place`): all before the place can be completed, one item more cannot; at the list's end the list is not
--- whole
+-- whole. There is one such place at most (the law `stops-once`)
 pub record StopsAt (Whole : List ℕ → Type 0) (items : List ℕ) (place : ℕ) : Type 0 where
   pub within : place ≤ length items
   pub can : CanGoOn Whole (take place items)

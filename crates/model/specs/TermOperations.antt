@@ -42,7 +42,7 @@ unfoldable pub AllListed : (names : List ℕ) → Terms → Type 0
 AllListed names none = Unit
 AllListed names (term n inner right) = (isListed names n ≡ true) × AllListed names inner × AllListed names right
 
--- "A name not listed is 20, at its first byte, the earliest such name."
+-- "A name not listed is 20, at its first byte, the earliest such name." (over the names of the term: the law `listed-place`)
 unfoldable pub nameGround : (names text : List ℕ) → ℕ → ℕ
 nameGround names text i = if nameBegins text i && not (isListed names (nameAt text i)) then 20 else 0
 

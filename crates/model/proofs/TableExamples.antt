@@ -1,0 +1,207 @@
+-- Tables checked, trees numbered and written, by computation against "The operations and what they turn away": each refusal from 1 to 16
+-- but 8, which none is, and which of two comes first.
+use Prim.Native.Nat.{ℕ, zero, suc, _+_, _≤_, _<_}
+use mathlib.Core.Path.{_≡_, refl, ap, _∙_}
+use mathlib.Core.Bool.{Bool, true, false, _&&_, _||_, and-false}
+use mathlib.Core.List.{List, [], _∷_, _++_, map}
+use native.Mathlib.Omega.{arith}
+use lib.ListN.{length, getD, take, replicate, length-replicate, getD-replicate}
+use lib.Dec.{eqb, ltb}
+use borrow.Author.Tests.{lt-ltb, le-ltb, ne-eqb}
+use Rattle.model.specs.Answers.{Outcome, result, refused}
+use Rattle.model.specs.Choice.{if_then_else_, refuseOn, firstFaulty, anyBelow}
+use Rattle.model.specs.Table.{rowStart, howMany, howManyRows, firstRows, rowsOf, tableOf, sameList, rowIs}
+use Rattle.model.specs.Tree.{serialForest, serial}
+use Rattle.model.specs.Reach.{rowWith, statesOf, entryOf}
+use Rattle.model.specs.Count.{sum, product, weight, stateCounts, grow, count, total, largest, rowLongest, stateLongest, longest}
+use Rattle.model.specs.Value.{horner, earlierRows, rowValue, valuesOf, numberOf, findBy, childrenFrom, treeIn, treeOf}
+use Rattle.model.specs.Check.{allBelow, cut, tooMany, outOfRange, notBelow, repeated, rowGround, acceptingGround, stateGround, checkWithin, checkOutcome}
+use Rattle.model.specs.Entries.{openAfter, entryGround, endsTooSoon, formOr, treeOr, levelsOf, treeFrom}
+use Rattle.model.specs.Number.{reachesNone, stuckOr, acceptedOr, numberOutcome}
+use Rattle.model.specs.Write.{entriesFor, writeOutcome, writeList}
+use Rattle.model.proofs.Choice.{if-yes, if-no, no-fault, or-right}
+use Rattle.model.proofs.Edges.{row, power, two, below-above, even, lengths}
+
+-- a table checked, a tree numbered, and a number's tree written into a lent list; the answer due, and what the lent list is then to hold
+data Example : Type 0 where
+  checks : (states : ℕ) (rows accepting : List ℕ) (answer : Outcome) → Example
+  numbers : (states : ℕ) (rows accepting tree : List ℕ) (answer : Outcome) → Example
+  writes : (states : ℕ) (rows accepting : List ℕ) (number : ℕ) (tree : List ℕ) (answer : Outcome) (after : List ℕ) → Example
+
+abbrev given : Example → Outcome × List ℕ
+given (checks states rows accepting answer) = (checkOutcome states rows accepting, [])
+given (numbers states rows accepting tree answer) = (numberOutcome states rows accepting tree, [])
+given (writes states rows accepting number tree answer after) = (writeOutcome states rows accepting number (length tree), writeList states rows accepting number tree)
+
+abbrev due : Example → Outcome × List ℕ
+due (checks states rows accepting answer) = (answer, [])
+due (numbers states rows accepting tree answer) = (answer, [])
+due (writes states rows accepting number tree answer after) = (answer, after)
+
+-- a leaf in state 0
+leaf : List ℕ
+leaf = row 1 0 []
+
+checked : List Example
+checked =
+    -- 1, before all else; 256 states pass, and 255 is one of them
+    checks 257 [] [] (refused 1 0)
+    ∷ checks 65536 (1 ∷ []) (0 ∷ 0 ∷ []) (refused 1 0)
+    ∷ checks 256 (row 1 255 [] ++ 1 ∷ []) [] (refused 2 1)
+    -- 2: fewer than three entries left; an argument missing; before 3
+    ∷ checks 1 (1 ∷ []) [] (refused 2 0)
+    ∷ checks 1 (1 ∷ 0 ∷ []) [] (refused 2 0)
+    ∷ checks 1 (leaf ++ 2 ∷ 0 ∷ []) [] (refused 2 1)
+    ∷ checks 2 (leaf ++ 1 ∷ 1 ∷ 2 ∷ 0 ∷ []) [] (refused 2 1)
+    ∷ checks 2 (leaf ++ 1 ∷ 1 ∷ 17 ∷ replicate 16 0) [] (refused 2 1)
+    -- 3: 16 arguments pass, 17 do not; before 4
+    ∷ checks 2 (leaf ++ row 1 1 (replicate 16 0)) (1 ∷ []) (result 1)
+    ∷ checks 2 (leaf ++ row 1 1 (replicate 17 0)) (1 ∷ []) (refused 3 1)
+    ∷ checks 2 (leaf ++ row 0 1 (replicate 17 0)) [] (refused 3 1)
+    -- 4: the symbol, the target, an argument; 255 is a symbol; before 5
+    ∷ checks 1 (row 0 0 []) [] (refused 4 0)
+    ∷ checks 1 (row 256 0 []) [] (refused 4 0)
+    ∷ checks 1 (row 255 0 []) (0 ∷ []) (result 1)
+    ∷ checks 1 (row 1 1 []) [] (refused 4 0)
+    ∷ checks 2 (leaf ++ row 1 1 (0 ∷ 2 ∷ [])) [] (refused 4 1)
+    -- 5: the target itself, and above it; before 6
+    ∷ checks 2 (leaf ++ row 1 1 (0 ∷ 1 ∷ [])) [] (refused 5 1)
+    ∷ checks 3 (leaf ++ row 1 1 (2 ∷ [])) [] (refused 5 1)
+    ∷ checks 2 (leaf ++ row 1 1 (0 ∷ []) ++ row 1 0 (0 ∷ [])) [] (refused 5 2)
+    -- 6: with the same target and with another; arguments in another order, or fewer, are other ones
+    ∷ checks 2 (leaf ++ leaf) [] (refused 6 1)
+    ∷ checks 2 (leaf ++ row 2 1 [] ++ row 1 1 []) [] (refused 6 2)
+    ∷ checks 3 (leaf ++ row 2 1 [] ++ row 1 2 (0 ∷ 1 ∷ []) ++ row 1 2 (1 ∷ 0 ∷ []) ++ row 1 2 (0 ∷ [])) (2 ∷ []) (result 3)
+    -- the first faulty row decides, whatever its ground
+    ∷ checks 1 (leaf ++ leaf ++ row 0 0 []) [] (refused 6 1)
+    ∷ checks 1 (leaf ++ row 0 0 [] ++ leaf) [] (refused 4 1)
+    -- 7: no state; an earlier entry, and where the list is longer than the count of states; after the rows, before the states
+    ∷ checks 2 leaf (1 ∷ 2 ∷ []) (refused 7 1)
+    ∷ checks 2 leaf (1 ∷ 0 ∷ 1 ∷ []) (refused 7 2)
+    ∷ checks 1 (row 0 0 []) (7 ∷ []) (refused 4 0)
+    -- the accepting list need not be ascending, and an empty state may be listed
+    ∷ checks 2 leaf (1 ∷ 0 ∷ []) (result 1)
+    ∷ []
+
+checked-hold : map given checked ≡ map due checked
+unfolding leaf checked checkOutcome checkWithin firstFaulty refuseOn anyBelow rowStart howMany howManyRows firstRows rowsOf sameList rowIs sum product weight stateCounts grow count total largest rowLongest stateLongest longest allBelow cut tooMany outOfRange notBelow repeated rowGround acceptingGround stateGround
+checked-hold = refl
+
+-- 3: row 1,023 is the 1,024th
+rows-hold : tooMany 1023 16 ∷ tooMany 1024 0 ∷ tooMany 0 17 ∷ [] ≡ false ∷ true ∷ true ∷ []
+unfolding tooMany
+rows-hold = refl
+
+-- `lengths`, then two leaves in state 3 and 65,536 trees in state 4
+both : List ℕ
+both = lengths ++ row 2 3 [] ++ row 3 3 [] ++ row 3 4 (replicate 16 3)
+
+limits : List Example
+limits =
+    -- 9: a state's sum decides, and not one row; of a state that no accepted tree uses too
+    checks 4 (below-above ++ row 5 3 (1 ∷ 2 ∷ []) ++ row 6 3 []) [] (refused 9 3)
+    -- before 10 within a state; the first faulty state decides
+    ∷ checks 6 (both ++ row 5 5 (4 ∷ 4 ∷ []) ++ row 5 5 (replicate 8 2)) (5 ∷ []) (refused 9 5)
+    ∷ checks 7 (both ++ row 5 5 (replicate 8 2) ++ row 5 6 (4 ∷ 4 ∷ [])) (6 ∷ []) (refused 10 5)
+    ∷ checks 7 (both ++ row 5 5 (4 ∷ 4 ∷ []) ++ row 5 6 (replicate 8 2)) (6 ∷ []) (refused 9 5)
+    -- 10: a row that counts 0 has no longest tree
+    ∷ checks 7 (both ++ row 5 6 (5 ∷ replicate 8 2)) (6 ∷ []) (result 0)
+    -- 11, after 9 and 10; 7 comes before them
+    ∷ checks 4 (below-above ++ row 5 3 (1 ∷ 2 ∷ [])) (3 ∷ 0 ∷ []) (refused 11 0)
+    ∷ checks 4 (even ++ row 5 2 (1 ∷ 1 ∷ [])) (3 ∷ 4 ∷ []) (refused 7 1)
+    ∷ []
+
+limits-hold : map given limits ≡ map due limits
+unfolding power two below-above even lengths both limits checkOutcome checkWithin firstFaulty refuseOn anyBelow rowStart howMany howManyRows firstRows rowsOf sameList rowIs sum product weight stateCounts grow count total largest rowLongest stateLongest longest allBelow cut tooMany outOfRange notBelow repeated rowGround acceptingGround stateGround
+limits-hold = refl
+
+-- a leaf in state 0; in state 1 a node with one leaf, and one with two; state 2 is reached by a node of those, and is not listed
+small : List ℕ
+small = leaf ++ row 2 1 (0 ∷ []) ++ row 2 1 (0 ∷ 0 ∷ []) ++ row 3 2 (1 ∷ 1 ∷ [])
+
+numbered : List Example
+numbered =
+    numbers 3 small (1 ∷ 0 ∷ []) (2 ∷ 1 ∷ 0 ∷ 0 ∷ []) (result 0)
+    ∷ numbers 3 small (1 ∷ 0 ∷ []) (2 ∷ 1 ∷ 0 ∷ 1 ∷ 0 ∷ 0 ∷ []) (result 1)
+    ∷ numbers 3 small (1 ∷ 0 ∷ []) (1 ∷ 0 ∷ []) (result 2)
+    ∷ numbers 3 small (0 ∷ 1 ∷ []) (1 ∷ 0 ∷ []) (result 0)
+    -- the last child changes fastest
+    ∷ numbers 3 small (2 ∷ []) (3 ∷ 2 ∷ 1 ∷ 0 ∷ 0 ∷ 2 ∷ 1 ∷ 0 ∷ 1 ∷ 0 ∷ 0 ∷ 0 ∷ []) (result 1)
+    ∷ numbers 3 small (2 ∷ []) (3 ∷ 2 ∷ 1 ∷ 0 ∷ 1 ∷ 0 ∷ 0 ∷ 2 ∷ 1 ∷ 0 ∷ 0 ∷ 0 ∷ []) (result 2)
+    -- 1 to 11 come first
+    ∷ numbers 257 [] [] (256 ∷ []) (refused 1 0)
+    ∷ numbers 1 (leaf ++ 1 ∷ []) [] (replicate 4097 1) (refused 2 1)
+    -- 12: before 13
+    ∷ numbers 1 leaf (0 ∷ []) (replicate 4097 0) (refused 12 0)
+    ∷ numbers 1 leaf (0 ∷ []) (replicate 4096 0) (refused 13 0)
+    -- 13: above 255, a bar with no node open, after the root's bar, at the end
+    ∷ numbers 1 leaf (0 ∷ []) (255 ∷ 256 ∷ 0 ∷ []) (refused 13 1)
+    ∷ numbers 1 leaf (0 ∷ []) (0 ∷ []) (refused 13 0)
+    ∷ numbers 1 leaf (0 ∷ []) (1 ∷ 0 ∷ 0 ∷ []) (refused 13 2)
+    ∷ numbers 1 leaf (0 ∷ []) (1 ∷ 0 ∷ 1 ∷ 0 ∷ []) (refused 13 2)
+    ∷ numbers 1 leaf (0 ∷ []) [] (refused 13 0)
+    ∷ numbers 1 leaf (0 ∷ []) (1 ∷ 1 ∷ 0 ∷ []) (refused 13 3)
+    -- before 14
+    ∷ numbers 1 leaf (0 ∷ []) (2 ∷ 0 ∷ 1 ∷ []) (refused 13 2)
+    -- 14: the first bar by its place, not the first node; fewer or more children than arguments; unlisted, the last bar
+    ∷ numbers 3 small (1 ∷ []) (9 ∷ 1 ∷ 0 ∷ 9 ∷ 0 ∷ 0 ∷ []) (refused 14 4)
+    ∷ numbers 3 small (1 ∷ []) (2 ∷ 0 ∷ []) (refused 14 1)
+    ∷ numbers 3 small (1 ∷ []) (2 ∷ 1 ∷ 0 ∷ 1 ∷ 0 ∷ 1 ∷ 0 ∷ 0 ∷ []) (refused 14 7)
+    ∷ numbers 3 small (1 ∷ []) (1 ∷ 0 ∷ []) (refused 14 1)
+    ∷ numbers 3 small (1 ∷ []) (3 ∷ 2 ∷ 1 ∷ 0 ∷ 0 ∷ 2 ∷ 1 ∷ 0 ∷ 0 ∷ 0 ∷ []) (refused 14 9)
+    ∷ []
+
+numbered-hold : map given numbered ≡ map due numbered
+unfolding leaf small numbered checkOutcome checkWithin firstFaulty refuseOn anyBelow rowStart howMany howManyRows firstRows rowsOf sameList rowIs sum product weight stateCounts grow count total largest rowLongest stateLongest longest allBelow cut tooMany outOfRange notBelow repeated rowGround acceptingGround stateGround serialForest serial rowWith statesOf entryOf horner earlierRows rowValue valuesOf numberOf openAfter entryGround endsTooSoon formOr treeOr levelsOf treeFrom reachesNone stuckOr acceptedOr numberOutcome
+numbered-hold = refl
+
+written : List Example
+written =
+    -- into a longer list, one just as long, and one that is short by one: 16
+    writes 3 small (1 ∷ 0 ∷ []) 1 (replicate 8 7) (result 6) (2 ∷ 1 ∷ 0 ∷ 1 ∷ 0 ∷ 0 ∷ 7 ∷ 7 ∷ [])
+    ∷ writes 3 small (1 ∷ 0 ∷ []) 1 (replicate 6 7) (result 6) (2 ∷ 1 ∷ 0 ∷ 1 ∷ 0 ∷ 0 ∷ [])
+    ∷ writes 3 small (1 ∷ 0 ∷ []) 1 (replicate 5 7) (refused 16 6) (replicate 5 7)
+    ∷ writes 3 small (1 ∷ 0 ∷ []) 2 (replicate 3 7) (result 2) (1 ∷ 0 ∷ 7 ∷ [])
+    -- the last child changes fastest
+    ∷ writes 3 small (2 ∷ []) 1 (replicate 12 7) (result 12) (3 ∷ 2 ∷ 1 ∷ 0 ∷ 0 ∷ 2 ∷ 1 ∷ 0 ∷ 1 ∷ 0 ∷ 0 ∷ 0 ∷ [])
+    ∷ writes 3 small (2 ∷ []) 2 (replicate 12 7) (result 12) (3 ∷ 2 ∷ 1 ∷ 0 ∷ 1 ∷ 0 ∷ 0 ∷ 2 ∷ 1 ∷ 0 ∷ 0 ∷ 0 ∷ [])
+    -- 15, before 16; 1 to 11 come first
+    ∷ writes 3 small (1 ∷ 0 ∷ []) 3 (replicate 2 7) (refused 15 0) (replicate 2 7)
+    ∷ writes 3 small (1 ∷ 0 ∷ []) 4294967296 [] (refused 15 0) []
+    ∷ writes 3 small (1 ∷ 3 ∷ []) 9 (replicate 2 7) (refused 7 1) (replicate 2 7)
+    ∷ []
+
+written-hold : map given written ≡ map due written
+unfolding leaf small written checkOutcome checkWithin firstFaulty refuseOn anyBelow rowStart howMany howManyRows firstRows rowsOf sameList rowIs sum product weight stateCounts grow count total largest rowLongest stateLongest longest allBelow cut tooMany outOfRange notBelow repeated rowGround acceptingGround stateGround serialForest serial findBy childrenFrom treeIn treeOf entriesFor writeOutcome writeList
+written-hold = refl
+
+-- ---- "A list that is no tree can open more": nodes that are opened and not closed, up to 4,096 of them
+
+abbrev opening : ℕ → List ℕ
+opening n = replicate n 1
+
+open-all : (n depth : ℕ) → openAfter depth (opening n) ≡ n + depth
+unfolding openAfter
+open-all zero depth = omega arith
+open-all (suc n) depth = omega (arith, open-all n (suc depth))
+
+take-all : (n i : ℕ) → i ≤ n → take i (opening n) ≡ opening i
+take-all n zero l = refl
+take-all zero (suc i) l = absurd (omega arith)
+take-all (suc n) (suc i) l = ap (λ (xs : List ℕ). 1 ∷ xs) (take-all n i (omega arith))
+
+opens-sound : (n i : ℕ) → i < n → entryGround (opening n) i ≡ 0
+unfolding entryGround
+opens-sound n i l = rw (getD-replicate {A = ℕ} n i 1 0 l, take-all n i (omega arith), open-all i 0) (go i)
+  where
+    go : (i : ℕ) → _≡_ {A = ℕ} (if ltb 255 1 || (eqb 1 0 && eqb (i + 0) 0) || (ltb 0 i && eqb (i + 0) 0) then 13 else 0) 0
+    go zero = refl
+    go (suc i) = rw (ne-eqb (suc i + 0) 0 (λ e. omega arith)) (if-no (ltb 255 1 || (eqb 1 0 && false) || (ltb 0 (suc i) && false)) 13 0 (and-false (ltb 0 (suc i))))
+
+opens-only : (n : ℕ) (o : Outcome) → 0 < n → n ≤ 4096 → treeOr (opening n) o ≡ refused 13 n
+unfolding treeOr formOr endsTooSoon
+opens-only n o p l =
+    rw (length-replicate {A = ℕ} n 1, open-all n 0)
+    (if-no (ltb 4096 n) (refused 12 0) _ (le-ltb 4096 n l)
+    ∙ no-fault n (entryGround (opening n)) _ (opens-sound n)
+    ∙ if-yes (eqb n 0 || ltb 0 (n + 0)) (refused 13 n) o (or-right (eqb n 0) (ltb 0 (n + 0)) (lt-ltb 0 (n + 0) (omega arith))))

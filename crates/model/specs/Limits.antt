@@ -1,0 +1,39 @@
+-- What the refusals 9, 10 and 11 say of trees (the laws `state-told` and `total-told`). Assumes nothing: these are definitions.
+use Prim.Native.Nat.{ℕ, _≤_, _<_}
+use mathlib.Core.Path.{_≡_}
+use mathlib.Core.List.{List}
+use lib.ListN.{length}
+use Rattle.model.specs.Table.{Row, Table}
+use Rattle.model.specs.Tree.{Tree, serial}
+use Rattle.model.specs.Reach.{Reaches, Accepted}
+use Rattle.model.specs.Order.{Exactly}
+use Rattle.model.specs.Check.{countLimit}
+
+-- exactly so many trees reach the state
+abbrev pub ReachedBy : List Row → (q many : ℕ) → Type 0
+ReachedBy rows q many = Exactly (λ (t : Tree). Reaches rows t q) many
+
+-- neither 9 nor 10 holds of the state
+pub record WithinLimits (rows : List Row) (q : ℕ) : Type 0 where
+  pub many : ℕ
+  pub reached : ReachedBy rows q many
+  pub few : many ≤ countLimit
+  pub short : (t : Tree) → Reaches rows t q → length (serial t) ≤ 4096
+
+-- "for each, a count above 4,294,967,295 is 9, and after that a longest tree above 4,096 entries is 10"
+pub data BeyondLimits (rows : List Row) (q number : ℕ) : Type 0 where
+  nine : number ≡ 9 → (many : ℕ) → ReachedBy rows q many → countLimit < many → BeyondLimits rows q number
+  ten : number ≡ 10 → (many : ℕ) → ReachedBy rows q many → many ≤ countLimit → (t : Tree) → Reaches rows t q → 4096 < length (serial t) → BeyondLimits rows q number
+
+-- "Then states are taken in turn from 0, the first faulty state decides, and its number is the place"
+pub record FirstBeyond (rows : List Row) (q number : ℕ) : Type 0 where
+  pub before : (a : ℕ) → a < q → WithinLimits rows a
+  pub here : BeyondLimits rows q number
+
+-- "Last, a total above 4,294,967,295 is 11."
+pub record TotalBeyond (T : Table) (place : ℕ) : Type 0 where
+  pub zero-place : place ≡ 0
+  pub states : (q : ℕ) → q < T .states → WithinLimits (T .rows) q
+  pub many : ℕ
+  pub accepted : Exactly (Accepted T) many
+  pub beyond : countLimit < many
