@@ -277,7 +277,7 @@ fn text_length(names: &[u8], starts: &[u16; 256], n: usize, tree: &[u16]) -> usi
 }
 
 // Puts the bytes at a place; gives the place after them.
-fn put_bytes(text: &mut [u8], at: usize, bytes: &[u8]) -> usize
+pub fn put_bytes(text: &mut [u8], at: usize, bytes: &[u8]) -> usize
     requires { ⌜ at + length (now bytes) ≤ length (now text) ⌝ }
     ensures { λ r. ⌜ Put (now (text .entry)) (now (text .exit)) (now (bytes .entry)) at r ⌝ }
 {

@@ -1,21 +1,51 @@
--- A result is at most the length of the list that was lent. Assumes nothing.
-use Prim.Native.Nat.{ℕ, _≤_}
-use mathlib.Core.Path.{_≡_, sym, ap, _∙_}
+-- What is held while bytes are fed, line by line. Assumes nothing.
+use Prim.Native.Nat.{ℕ, _+_, _-_, _<_, _≤_}
+use mathlib.Core.Path.{_≡_, ap, sym, _∙_}
 use mathlib.Core.List.{List}
-use lib.ListN.{length}
-use Rattle.model.specs.Answers.{outcome}
-use Rattle.model.specs.declared.Answer.{Answer}
-use Rattle.model.specs.declared.Answer.the-variants.{Result}
-use Rattle.model.proofs.Inverse.{read-back, write-back}
-use Rattle.model.proofs.Demand3.{write-tree-fits}
-use Rattle.term.specs.Written.{ReadTerm, WriteTerm}
-use Rattle.unrank.specs.Written.{WroteTree}
+use native.Mathlib.Omega.{arith}
+use lib.ListN.{length, take}
+use lib.Seq.{take-add, take-all}
+use Rattle.line.specs.Held.{Holds, Holding, part, heldAfter}
+use Rattle.line.specs.declared.Line.{Line}
+use Rattle.line.specs.declared.Fed.{Fed}
+use Rattle.line.proofs.Output.{held-more}
+use Rattle.treenum.specs.Treenum.{PrintsLine, Turned}
+use Rattle.treenum.specs.declared.Turn.{Turn}
+use Rattle.treenum.specs.declared.Turn.the-variants.{On, End}
 
-pub read-fits : {names text old new : List ℕ} {r : Answer} → ReadTerm names text old new r → (n : ℕ) → r ≡ Result n → n ≤ length old
-read-fits {names} {text} {old} x n e = read-back names text (length old) n (sym (x .answer) ∙ ap outcome e) .2
+-- the first i bytes are fed
+pub record Feeds (bytes text₀ : List ℕ) (line₀ : Line) (text : List ℕ) (line : Line) (i : ℕ) : Type 0 where
+  pub within : i ≤ length bytes
+  pub holds : (held : List ℕ) → Holds held line₀ text₀ → Holds (heldAfter held (take i bytes)) line text
 
-pub write-fits : {names tree old new : List ℕ} {r : Answer} → WriteTerm names tree old new r → (n : ℕ) → r ≡ Result n → n ≤ length old
-write-fits {names} {tree} {old} x n e = write-back names tree (length old) n (sym (x .answer) ∙ ap outcome e) .2
+pub feeds-first : (bytes text : List ℕ) (line : Line) → Feeds bytes text line text line 0
+unfolding heldAfter
+feeds-first bytes text line = record { within = omega arith; holds = λ held x. x }
 
-pub wrote-fits : {states : ℕ} {rows accepting : List ℕ} {number : ℕ} {old new : List ℕ} {r : Answer} → WroteTree states rows accepting number old new r → (n : ℕ) → r ≡ Result n → n ≤ length old
-wrote-fits {states} {rows} {accepting} {number} {old} x n e = write-tree-fits states rows accepting number (length old) n (sym (x .answer) ∙ ap outcome e)
+module _ {bytes text₀ : List ℕ} {line₀ : Line} {text : List ℕ} {line : Line} {i : ℕ} (f : Feeds bytes text₀ line₀ text line i) where
+  pub feeds-holding : Holding line₀ text₀ → Holding line text
+  feeds-holding h = record { bytes = heldAfter (h .bytes) (take i bytes); holds = f .holds (h .bytes) (h .holds) }
+
+  pub feeds-more : (r : Fed) (text′ out : List ℕ) → i < r .next → r .next ≤ length bytes
+      → ((held : List ℕ) → Holds held line text → PrintsLine held (part bytes i (r .next)) (r .line) text′ out (r .count)) → Feeds bytes text₀ line₀ text′ (r .line) (r .next)
+  feeds-more r text′ out m l p = record {
+    within = l;
+    holds = λ held x.
+        let n : i + (r .next - i) ≡ r .next = omega arith in
+        let e = ap (heldAfter held) (ap (λ (k : ℕ). take k bytes) (sym n) ∙ take-add i (r .next - i) bytes) ∙ held-more held (take i bytes) (part bytes i (r .next)) in
+        rw e (p (heldAfter held (take i bytes)) (f .holds held x) .holds);
+  }
+
+  pub feeds-last : length bytes ≤ i → (held : List ℕ) → Holds held line₀ text₀ → Holds (heldAfter held bytes) line text
+  feeds-last ge held x = rw (take-all i bytes ge) at (f .holds held x)
+
+-- a turn leaves some bytes held
+pub turned-on : {r : Turn} {line l : Line} {text text′ : List ℕ} → ((held : List ℕ) → Holds held line text → Turned held r text′) → r ≡ On l → Holding line text → Holding l text′
+turned-on {r} {line} {l} {text} {text′} t e h =
+    let k : Turned (h .bytes) (On l) text′ = rw e at (t (h .bytes) (h .holds)) in
+    record { bytes = heldAfter (h .bytes) (k .0); holds = k .1 }
+
+pub turned-end : {r : Turn} {line l : Line} {text text′ : List ℕ} → ((held : List ℕ) → Holds held line text → Turned held r text′) → r ≡ End l → Holding line text → Holding l text′
+turned-end {r} {line} {l} {text} {text′} t e h =
+    let k : Turned (h .bytes) (End l) text′ = rw e at (t (h .bytes) (h .holds)) in
+    record { bytes = h .bytes; holds = k }

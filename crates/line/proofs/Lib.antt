@@ -1,0 +1,9 @@
+-- The laws of printed lines.
+pub mod Decimal
+pub mod Feeding
+pub mod Output
+pub mod Outcomes
+pub mod Putting
+pub mod Answering
+pub mod Walking
+pub mod Run
