@@ -4,17 +4,20 @@
  * a row is its symbol (1 to 255), its target state, its argument count (0 to 16), and that many argument states,
  * each below the target. Places and row numbers count from 0.
  *
- * A tree is a list of entries: the symbol of a node, its children one after another, then 0.
+ * A tree is a list of entries: the symbol of a node, its children one after another, then the bar, which is 0.
  *
  * A names list is bytes: 1 to 255 names, each followed by a line feed; the first names symbol 1. A name is 1 to 24
  * bytes: an ASCII letter, then letters, digits, '-' or '_'. No name stands twice. A term is a name, or a name
  * followed by '(', one or more terms with ',' between them, and ')', without blanks.
  *
- * Each function returns 0 and puts its result in *value, or returns the number of a refusal and puts its place
- * there. The place is 0 where none is named below. On a refusal no list is written to.
+ * Each function returns TREENUM_RESULT and puts its result in *value, or returns the number of a refusal and puts its
+ * place there. On a refusal no list is written to.
  *
  * Each pointer is aligned, is valid for its length for as long as the call runs, and is not null, not even for
  * a length of 0. Lists that are const are only read. A list that is not const, and value, overlap nothing else.
+ *
+ * No function keeps anything, takes memory or has to be called before another: each call checks all that it is
+ * lent. Calls in several threads at once are safe.
  */
 #ifndef TREENUM_H
 #define TREENUM_H
@@ -26,74 +29,77 @@
 extern "C" {
 #endif
 
-/* Checks a table. The result is its total, the count of the trees that it accepts. The refusals, in the order in
- * which they are looked for:
- *
- *    1  there are more than 256 states
- *       for each row in turn; the place is its number:
- *    2  fewer than three entries are left, or fewer arguments than counted
- *    3  the row is beyond the 1,024th, or has more than 16 arguments
- *    4  the symbol is 0 or above 255, or the target or an argument is no state
- *    5  an argument is not below the target
- *    6  an earlier row has the same symbol and arguments
- *       for the accepting list:
- *    7  an entry is no state or equals an earlier one; the place is the first such entry's
- *    8  the list is longer than the count of states (7 comes first, so this is never returned)
- *       for each state in turn; the place is its number:
- *    9  its count is above 4,294,967,295
- *   10  its longest tree has more than 4,096 entries
- *       for the table:
- *   11  the total is above 4,294,967,295
- */
+/* What a function returns. Behind a refusal stand its ground and, after a semicolon, its place; where none is named,
+ * the place is 0. */
+enum {
+    TREENUM_RESULT = 0,
+
+    /* checking a table: rows in turn, then the accepting list, then states in turn */
+    TREENUM_TOO_MANY_STATES = 1,            /* more than 256 states */
+    TREENUM_CUT_ROW = 2,                    /* fewer than three entries left, or fewer arguments left than counted; the row */
+    TREENUM_TOO_MANY_ROWS_OR_ARGUMENTS = 3, /* a row beyond the 1,024th, or more than 16 arguments; the row */
+    TREENUM_NOT_IN_RANGE = 4,               /* symbol 0 or above 255, or a target or argument that is no state; the row */
+    TREENUM_ARGUMENT_NOT_BELOW_TARGET = 5,  /* an argument not below the target; the row */
+    TREENUM_REPEATED_ROW = 6,               /* the symbol and arguments of an earlier row; the later row */
+    TREENUM_ACCEPTING_ENTRY = 7,            /* an accepting entry that is no state or equals an earlier entry; the entry */
+    TREENUM_ACCEPTING_TOO_LONG = 8,         /* an accepting list longer than the count of states (never seen: 7 comes first) */
+    TREENUM_COUNT_ABOVE_LIMIT = 9,          /* a state's count above 4,294,967,295; the state */
+    TREENUM_LONGEST_TREE_ABOVE_LIMIT = 10,  /* a state's longest tree above 4,096 entries; the state */
+    TREENUM_TOTAL_ABOVE_LIMIT = 11,         /* a total above 4,294,967,295 */
+
+    /* taking a tree */
+    TREENUM_TREE_TOO_LONG = 12, /* more than 4,096 entries */
+    TREENUM_NOT_A_TREE = 13,    /* a list that is no tree; the first entry that is above 255, is a bar with no node open, or
+                                   follows the root's bar, or the list's length if it ends too soon */
+    TREENUM_NOT_ACCEPTED = 14,  /* a tree that the table does not accept; the first bar that closes a subtree reaching no
+                                   state, or the last bar if the whole tree reaches a state that is not listed */
+
+    /* writing the tree of a number */
+    TREENUM_NUMBER_NOT_BELOW_TOTAL = 15, /* a number not below the total */
+    TREENUM_SHORT_TREE_LIST = 16,        /* a lent list shorter than the tree; the entries needed */
+
+    /* reading a term */
+    TREENUM_FAULTY_NAMES = 17,       /* a names list against the rules; its first faulty line, or 0 if it is empty (of equal
+                                        names the later line is faulty, and so are a 256th line and a last line without a
+                                        line feed) */
+    TREENUM_TEXT_TOO_LONG = 18,      /* a text above 65,536 bytes */
+    TREENUM_NOT_A_TERM = 19,         /* a text that is no term; the first byte with which no term can go on, or the text's
+                                        length if it ends too soon */
+    TREENUM_UNLISTED_NAME = 20,      /* a name not listed; the first byte of the earliest such name */
+    TREENUM_TERM_TREE_TOO_LONG = 21, /* a term whose tree is above 4,096 entries */
+    TREENUM_SHORT_TERM_TREE = 22,    /* a short lent tree list; the entries needed */
+
+    /* writing a term */
+    TREENUM_UNNAMED_SYMBOL = 23, /* a symbol above the count of names; the first such entry */
+    TREENUM_SHORT_TEXT_LIST = 24 /* a short lent text list; the bytes needed */
+};
+
+/* A tree list of so many entries is never short, and neither is a text list of so many bytes. */
+#define TREENUM_TREE_ROOM 4096
+#define TREENUM_TERM_ROOM 53248
+
+/* Checks a table. The result is its total, the count of the trees that it accepts. Refusals: 1 to 11, in this order
+ * but for 2 to 6, where the first faulty row decides, and 9 and 10, where the first faulty state does. */
 uint32_t treenum_check(uint64_t states, const uint16_t *rows, size_t rows_len, const uint16_t *accepting,
                        size_t accepting_len, uint64_t *value);
 
-/* Numbers a tree. The result is its number: how many of the trees that the table accepts come before it. The refusals,
- * in the order in which they are looked for:
- *
- *    1 to 11  as the check
- *   12  the tree has more than 4,096 entries
- *   13  the list is no tree; the place is the first entry that is above 255, is a 0 with no node open, or follows the
- *       root's 0, or the list's length if it ends too soon
- *   14  the table does not accept the tree; the place is the first 0 that closes a subtree reaching no state, or the
- *       last 0 if the whole tree reaches a state that is not on the accepting list
- */
+/* Numbers a tree. The result is its number: how many of the trees that the table accepts come before it. Refusals: as
+ * the check, then 12, 13, 14. */
 uint32_t treenum_number(uint64_t states, const uint16_t *rows, size_t rows_len, const uint16_t *accepting,
                         size_t accepting_len, const uint16_t *tree, size_t tree_len, uint64_t *value);
 
 /* Writes the tree of a number into a tree list. The result is the count of entries, which are written at the front of
- * the list; the later ones stay. The refusals, in the order in which they are looked for:
- *
- *    1 to 11  as the check
- *   15  the number is not below the total
- *   16  the tree list is short; the place is the count of entries needed
- */
+ * the list; the later ones stay. Refusals: as the check, then 15, 16. */
 uint32_t treenum_write(uint64_t states, const uint16_t *rows, size_t rows_len, const uint16_t *accepting,
                        size_t accepting_len, uint64_t number, uint16_t *tree, size_t tree_len, uint64_t *value);
 
 /* Reads a term into a tree list. The result is the count of entries, which are written at the front of the list; the
- * later ones stay. The refusals, in the order in which they are looked for:
- *
- *   17  the names list is against the rules; the place is its first faulty line, or 0 if it is empty (of equal names
- *       the later line is faulty, and so are a 256th line and a last line without a line feed)
- *   18  the text has more than 65,536 bytes
- *   19  the text is no term; the place is the first byte with which no term can go on, or the text's length if it
- *       ends too soon
- *   20  a name is not listed; the place is the first byte of the earliest such name
- *   21  the tree has more than 4,096 entries
- *   22  the tree list is short; the place is the count of entries needed
- */
+ * later ones stay. Refusals: 17, 18, 19, 20, 21, 22. */
 uint32_t treenum_read_term(const uint8_t *names, size_t names_len, const uint8_t *text, size_t text_len,
                            uint16_t *tree, size_t tree_len, uint64_t *value);
 
 /* Writes a tree as a term into a text list. The result is the count of bytes, which are written at the front of the
- * list; the later ones stay. The refusals, in the order in which they are looked for:
- *
- *   17  as above
- *   12, 13  as numbering a tree
- *   23  a symbol is above the count of names; the place is the first such entry
- *   24  the text list is short; the place is the count of bytes needed
- */
+ * list; the later ones stay. Refusals: 17, 12, 13, 23, 24. */
 uint32_t treenum_write_term(const uint8_t *names, size_t names_len, const uint16_t *tree, size_t tree_len,
                             uint8_t *text, size_t text_len, uint64_t *value);
 

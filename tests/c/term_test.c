@@ -11,7 +11,7 @@
 #define LENT 40
 #define MARK 77
 
-/* A text and a tree: `room` entries (bytes) are lent. Where the answer is 0 the other form is expected at the front. */
+/* A text and a tree: `room` entries (bytes) are lent. Where the answer is a result the other form is expected at the front. */
 static const struct test {
     const char *name;
     const uint8_t *names;
@@ -24,33 +24,33 @@ static const struct test {
     uint32_t answer;
     uint64_t value;
 } reading[] = {
-    {"a leaf", BYTES("a\nb\n"), BYTES("b"), LIST(2, 0), 40, 0, 2},
+    {"a leaf", BYTES("a\nb\n"), BYTES("b"), LIST(2, 0), 40, TREENUM_RESULT, 2},
     {"the paper's number 10", BYTES("a\nb\n"), BYTES("b(b(a,b),a(b,b),b)"),
-     LIST(2, 2, 1, 0, 2, 0, 0, 1, 2, 0, 2, 0, 0, 2, 0, 0), 40, 0, 16},
-    {"just room enough", BYTES("a\nb\n"), BYTES("a(a)"), LIST(1, 1, 0, 0), 4, 0, 4},
-    {"an entry short", BYTES("a\nb\n"), BYTES("a(a)"), LIST(0), 3, 22, 4},
-    {"no room", BYTES("a\nb\n"), BYTES("a"), LIST(0), 0, 22, 2},
-    {"no names", BYTES(""), BYTES("a"), LIST(0), 40, 17, 0},
-    {"equal names", BYTES("a\nb\na\n"), BYTES("a"), LIST(0), 40, 17, 2},
-    {"a last line without a line feed", BYTES("a\nb"), BYTES("a"), LIST(0), 40, 17, 1},
-    {"brackets with nothing in them", BYTES("a\nb\n"), BYTES("a()"), LIST(0), 40, 19, 2},
-    {"too soon an end", BYTES("a\nb\n"), BYTES("a("), LIST(0), 40, 19, 2},
-    {"an empty text", BYTES("a\nb\n"), BYTES(""), LIST(0), 40, 19, 0},
-    {"25 bytes", BYTES("a\nb\n"), BYTES("a(aaaaabbbbbaaaaabbbbbaaaaa)"), LIST(0), 40, 19, 26},
-    {"24 bytes", BYTES("a\naaaaabbbbbaaaaabbbbbaaaa\n"), BYTES("a(aaaaabbbbbaaaaabbbbbaaaa)"), LIST(1, 2, 0, 0), 40, 0, 4},
-    {"a name not listed", BYTES("a\nb\n"), BYTES("a(b,c,d)"), LIST(0), 40, 20, 4},
+     LIST(2, 2, 1, 0, 2, 0, 0, 1, 2, 0, 2, 0, 0, 2, 0, 0), 40, TREENUM_RESULT, 16},
+    {"just room enough", BYTES("a\nb\n"), BYTES("a(a)"), LIST(1, 1, 0, 0), 4, TREENUM_RESULT, 4},
+    {"an entry short", BYTES("a\nb\n"), BYTES("a(a)"), LIST(0), 3, TREENUM_SHORT_TERM_TREE, 4},
+    {"no room", BYTES("a\nb\n"), BYTES("a"), LIST(0), 0, TREENUM_SHORT_TERM_TREE, 2},
+    {"no names", BYTES(""), BYTES("a"), LIST(0), 40, TREENUM_FAULTY_NAMES, 0},
+    {"equal names", BYTES("a\nb\na\n"), BYTES("a"), LIST(0), 40, TREENUM_FAULTY_NAMES, 2},
+    {"a last line without a line feed", BYTES("a\nb"), BYTES("a"), LIST(0), 40, TREENUM_FAULTY_NAMES, 1},
+    {"brackets with nothing in them", BYTES("a\nb\n"), BYTES("a()"), LIST(0), 40, TREENUM_NOT_A_TERM, 2},
+    {"too soon an end", BYTES("a\nb\n"), BYTES("a("), LIST(0), 40, TREENUM_NOT_A_TERM, 2},
+    {"an empty text", BYTES("a\nb\n"), BYTES(""), LIST(0), 40, TREENUM_NOT_A_TERM, 0},
+    {"25 bytes", BYTES("a\nb\n"), BYTES("a(aaaaabbbbbaaaaabbbbbaaaaa)"), LIST(0), 40, TREENUM_NOT_A_TERM, 26},
+    {"24 bytes", BYTES("a\naaaaabbbbbaaaaabbbbbaaaa\n"), BYTES("a(aaaaabbbbbaaaaabbbbbaaaa)"), LIST(1, 2, 0, 0), 40, TREENUM_RESULT, 4},
+    {"a name not listed", BYTES("a\nb\n"), BYTES("a(b,c,d)"), LIST(0), 40, TREENUM_UNLISTED_NAME, 4},
 }, writing[] = {
-    {"a leaf", BYTES("a\nb\n"), BYTES("b"), LIST(2, 0), 40, 0, 1},
+    {"a leaf", BYTES("a\nb\n"), BYTES("b"), LIST(2, 0), 40, TREENUM_RESULT, 1},
     {"the paper's number 10", BYTES("a\nb\n"), BYTES("b(b(a,b),a(b,b),b)"),
-     LIST(2, 2, 1, 0, 2, 0, 0, 1, 2, 0, 2, 0, 0, 2, 0, 0), 40, 0, 18},
-    {"just room enough", BYTES("a\nb\n"), BYTES("a(a)"), LIST(1, 1, 0, 0), 4, 0, 4},
-    {"a byte short", BYTES("a\nb\n"), BYTES(""), LIST(1, 1, 0, 0), 3, 24, 4},
-    {"equal names", BYTES("a\nb\na\n"), BYTES(""), LIST(1, 0), 40, 17, 2},
-    {"a bar first", BYTES("a\nb\n"), BYTES(""), LIST(0, 1), 40, 13, 0},
-    {"an entry above 255", BYTES("a\nb\n"), BYTES(""), LIST(1, 256, 0), 40, 13, 1},
-    {"an entry after the root's bar", BYTES("a\nb\n"), BYTES(""), LIST(1, 0, 1), 40, 13, 2},
-    {"too soon an end", BYTES("a\nb\n"), BYTES(""), LIST(1, 1, 0), 40, 13, 3},
-    {"a symbol without a name", BYTES("a\nb\n"), BYTES(""), LIST(1, 3, 0, 4, 0, 0), 40, 23, 1},
+     LIST(2, 2, 1, 0, 2, 0, 0, 1, 2, 0, 2, 0, 0, 2, 0, 0), 40, TREENUM_RESULT, 18},
+    {"just room enough", BYTES("a\nb\n"), BYTES("a(a)"), LIST(1, 1, 0, 0), 4, TREENUM_RESULT, 4},
+    {"a byte short", BYTES("a\nb\n"), BYTES(""), LIST(1, 1, 0, 0), 3, TREENUM_SHORT_TEXT_LIST, 4},
+    {"equal names", BYTES("a\nb\na\n"), BYTES(""), LIST(1, 0), 40, TREENUM_FAULTY_NAMES, 2},
+    {"a bar first", BYTES("a\nb\n"), BYTES(""), LIST(0, 1), 40, TREENUM_NOT_A_TREE, 0},
+    {"an entry above 255", BYTES("a\nb\n"), BYTES(""), LIST(1, 256, 0), 40, TREENUM_NOT_A_TREE, 1},
+    {"an entry after the root's bar", BYTES("a\nb\n"), BYTES(""), LIST(1, 0, 1), 40, TREENUM_NOT_A_TREE, 2},
+    {"too soon an end", BYTES("a\nb\n"), BYTES(""), LIST(1, 1, 0), 40, TREENUM_NOT_A_TREE, 3},
+    {"a symbol without a name", BYTES("a\nb\n"), BYTES(""), LIST(1, 3, 0, 4, 0, 0), 40, TREENUM_UNNAMED_SYMBOL, 1},
 };
 
 static size_t failed;
@@ -61,15 +61,23 @@ static void say(const char *what, const struct test *t, uint32_t answer, uint64_
     failed++;
 }
 
+static void check(int holds, const char *what) {
+    if (!holds) {
+        printf("failed: %s\n", what);
+        failed++;
+    }
+}
+
 int main(void) {
     static const uint16_t long_tree[4097] = {1};
     static uint8_t long_text[65537];
+    static uint16_t tree[TREENUM_TREE_ROOM], back[TREENUM_TREE_ROOM];
     for (size_t i = 0; i < sizeof reading / sizeof reading[0]; i++) {
         const struct test *t = &reading[i];
         uint16_t lent[LENT], expected[LENT];
         for (size_t k = 0; k < LENT; k++) {
             lent[k] = MARK;
-            expected[k] = t->answer == 0 && k < t->tree_len ? t->tree[k] : MARK;
+            expected[k] = t->answer == TREENUM_RESULT && k < t->tree_len ? t->tree[k] : MARK;
         }
         uint64_t value = 123456789;
         uint32_t answer = treenum_read_term(t->names, t->names_len, t->text, t->text_len, lent, t->room, &value);
@@ -81,7 +89,7 @@ int main(void) {
         uint8_t lent[LENT], expected[LENT];
         for (size_t k = 0; k < LENT; k++) {
             lent[k] = MARK;
-            expected[k] = t->answer == 0 && k < t->text_len ? t->text[k] : MARK;
+            expected[k] = t->answer == TREENUM_RESULT && k < t->text_len ? t->text[k] : MARK;
         }
         uint64_t value = 123456789;
         uint32_t answer = treenum_write_term(t->names, t->names_len, t->tree, t->tree_len, lent, t->room, &value);
@@ -91,15 +99,31 @@ int main(void) {
     /* 12 and 18 */
     uint64_t value = 1;
     uint16_t entry = MARK;
-    if (treenum_write_term(BYTES("a\n"), long_tree, 4097, long_text, sizeof long_text, &value) != 12 || value != 0) {
-        printf("writing 4,097 entries\n");
-        failed++;
-    }
+    check(treenum_write_term(BYTES("a\n"), long_tree, 4097, long_text, sizeof long_text, &value) == TREENUM_TREE_TOO_LONG && value == 0,
+          "writing 4,097 entries");
     value = 1;
-    if (treenum_read_term(BYTES("a\n"), long_text, sizeof long_text, &entry, 1, &value) != 18 || value != 0 || entry != MARK) {
-        printf("reading 65,537 bytes\n");
-        failed++;
+    check(treenum_read_term(BYTES("a\n"), long_text, sizeof long_text, &entry, 1, &value) == TREENUM_TEXT_TOO_LONG && value == 0 &&
+              entry == MARK,
+          "reading 65,537 bytes");
+    /* the longest term fits the rooms of the header: 2,048 nodes, each the only child of the one before, with a name of 24 bytes */
+    const char *const name = "aaaaabbbbbaaaaabbbbbaaaa\n";
+    for (size_t k = 0; k < TREENUM_TREE_ROOM; k++)
+        tree[k] = k < TREENUM_TREE_ROOM / 2;
+    check(treenum_write_term((const uint8_t *)name, 25, tree, TREENUM_TREE_ROOM, long_text, TREENUM_TERM_ROOM, &value) == TREENUM_RESULT &&
+              value == 2048 * 24 + 2 * 2047 && value <= TREENUM_TERM_ROOM,
+          "writing 4,096 entries");
+    check(treenum_read_term((const uint8_t *)name, 25, long_text, value, back, TREENUM_TREE_ROOM, &value) == TREENUM_RESULT &&
+              value == TREENUM_TREE_ROOM && memcmp(tree, back, sizeof tree) == 0,
+          "reading 4,096 entries");
+    /* 21: a node more */
+    for (size_t k = 0; k < 2048; k++) {
+        memcpy(long_text + 2 * k, "a(", 2);
+        long_text[4097 + k] = ')';
     }
-    printf("C interface: %zu terms, %zu failed\n", sizeof reading / sizeof reading[0] + sizeof writing / sizeof writing[0] + 2, failed);
+    long_text[4096] = 'a';
+    check(treenum_read_term(BYTES("a\n"), long_text, 4097 + 2048, back, TREENUM_TREE_ROOM, &value) == TREENUM_TERM_TREE_TOO_LONG &&
+              value == 0 && memcmp(tree, back, sizeof tree) == 0,
+          "reading 4,098 entries");
+    printf("C interface: %zu terms, %zu failed\n", sizeof reading / sizeof reading[0] + sizeof writing / sizeof writing[0] + 5, failed);
     return failed != 0;
 }

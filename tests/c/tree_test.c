@@ -21,15 +21,15 @@ static const struct fact {
     uint32_t answer;
     uint64_t value;
 } facts[] = {
-    {"a(a,a)", 0, 0},
-    {"b(a,b)", 0, 1},
-    {"a(a(a,a),b(a,b))", 0, 3},
-    {"a(b(a,b),a(a,a))", 0, 4},
-    {"b(a(a,a),a(b,a),b)", 0, 6},
-    {"b(b(a,b),a(b,b),b)", 0, 10},
-    {"b(b(a,b),b(b,b),b)", 0, 11},
-    {"a", 14, 1},
-    {"b(a,a)", 14, 5},
+    {"a(a,a)", TREENUM_RESULT, 0},
+    {"b(a,b)", TREENUM_RESULT, 1},
+    {"a(a(a,a),b(a,b))", TREENUM_RESULT, 3},
+    {"a(b(a,b),a(a,a))", TREENUM_RESULT, 4},
+    {"b(a(a,a),a(b,a),b)", TREENUM_RESULT, 6},
+    {"b(b(a,b),a(b,b),b)", TREENUM_RESULT, 10},
+    {"b(b(a,b),b(b,b),b)", TREENUM_RESULT, 11},
+    {"a", TREENUM_NOT_ACCEPTED, 1},
+    {"b(a,a)", TREENUM_NOT_ACCEPTED, 5},
 };
 
 static size_t failed;
@@ -46,14 +46,14 @@ int main(void) {
         const struct fact *f = &facts[i];
         uint16_t tree[ROOM], back[ROOM];
         uint64_t count = 0, value = 123456789, written = 0;
-        check(treenum_read_term(NAMES, (const uint8_t *)f->term, strlen(f->term), tree, ROOM, &count) == 0, f->term);
+        check(treenum_read_term(NAMES, (const uint8_t *)f->term, strlen(f->term), tree, ROOM, &count) == TREENUM_RESULT, f->term);
         check(treenum_number(PAPER, tree, count, &value) == f->answer && value == f->value, f->term);
-        if (f->answer != 0)
+        if (f->answer != TREENUM_RESULT)
             continue;
         for (size_t k = 0; k < ROOM; k++)
             back[k] = MARK;
-        check(treenum_write(PAPER, f->value, back, count - 1, &written) == 16 && written == count && back[0] == MARK, f->term);
-        check(treenum_write(PAPER, f->value, back, ROOM, &written) == 0 && written == count, f->term);
+        check(treenum_write(PAPER, f->value, back, count - 1, &written) == TREENUM_SHORT_TREE_LIST && written == count && back[0] == MARK, f->term);
+        check(treenum_write(PAPER, f->value, back, ROOM, &written) == TREENUM_RESULT && written == count, f->term);
         check(memcmp(tree, back, count * sizeof tree[0]) == 0 && back[count] == MARK && back[ROOM - 1] == MARK, f->term);
     }
     /* all twelve numbers, and those from 12 up */
@@ -61,17 +61,17 @@ int main(void) {
         uint16_t tree[ROOM] = {MARK};
         uint64_t count = 0, value = 123456789;
         uint32_t answer = treenum_write(PAPER, n, tree, ROOM, &count);
-        check(n < 12 ? answer == 0 : answer == 15 && count == 0 && tree[0] == MARK, "a number written");
+        check(n < 12 ? answer == TREENUM_RESULT : answer == TREENUM_NUMBER_NOT_BELOW_TOTAL && count == 0 && tree[0] == MARK, "a number written");
         if (n < 12)
-            check(treenum_number(PAPER, tree, count, &value) == 0 && value == n, "a number there and back");
+            check(treenum_number(PAPER, tree, count, &value) == TREENUM_RESULT && value == n, "a number there and back");
     }
     uint16_t none = MARK;
     uint64_t value = 1;
-    check(treenum_write(PAPER, UINT64_MAX, &none, 1, &value) == 15 && value == 0 && none == MARK, "2 to the 64th less 1");
-    check(treenum_number(257, rows, 0, accepting, 0, &none, 1, &value) == 1 && value == 0, "257 states");
-    check(treenum_number(PAPER, &none, 0, &value) == 13 && value == 0, "an empty list");
+    check(treenum_write(PAPER, UINT64_MAX, &none, 1, &value) == TREENUM_NUMBER_NOT_BELOW_TOTAL && value == 0 && none == MARK, "2 to the 64th less 1");
+    check(treenum_number(257, rows, 0, accepting, 0, &none, 1, &value) == TREENUM_TOO_MANY_STATES && value == 0, "257 states");
+    check(treenum_number(PAPER, &none, 0, &value) == TREENUM_NOT_A_TREE && value == 0, "an empty list");
     static const uint16_t long_tree[4097] = {1};
-    check(treenum_number(PAPER, long_tree, 4097, &value) == 12 && value == 0, "4,097 entries");
+    check(treenum_number(PAPER, long_tree, 4097, &value) == TREENUM_TREE_TOO_LONG && value == 0, "4,097 entries");
     printf("C interface: %zu facts and 14 numbers, %zu failed\n", sizeof facts / sizeof facts[0], failed);
     return failed != 0;
 }

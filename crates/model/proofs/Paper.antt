@@ -6,12 +6,8 @@ use Rattle.model.specs.Answers.{result}
 use Rattle.model.specs.Choice.{refuseOn, firstFaulty, anyBelow}
 use Rattle.model.specs.Table.{rowStart, howMany, howManyRows, firstRows, rowsOf, tableOf, sameList, rowIs}
 use Rattle.model.specs.Count.{sum, product, weight, stateCounts, grow, count, total, largest, rowLongest, stateLongest, longest}
+use Rattle.model.specs.Paper.{paperRows}
 use Rattle.model.specs.Check.{allBelow, cut, tooMany, outOfRange, notBelow, repeated, rowGround, acceptingGround, stateGround, checkWithin, checkOutcome}
-
--- "Rows, as symbol, target, argument count, arguments"
-unfoldable pub paperRows : List ℕ
-paperRows =
-    1 ∷ 0 ∷ 0 ∷ 2 ∷ 1 ∷ 0 ∷ 1 ∷ 2 ∷ 2 ∷ 0 ∷ 0 ∷ 2 ∷ 2 ∷ 2 ∷ 0 ∷ 1 ∷ 1 ∷ 3 ∷ 2 ∷ 1 ∷ 0 ∷ 1 ∷ 3 ∷ 2 ∷ 1 ∷ 1 ∷ 2 ∷ 3 ∷ 2 ∷ 1 ∷ 1 ∷ 1 ∷ 4 ∷ 2 ∷ 2 ∷ 2 ∷ 2 ∷ 4 ∷ 3 ∷ 2 ∷ 3 ∷ 1 ∷ []
 
 -- "The states count 1, 1, 2, 3, 10"
 paper-counts : map (count (tableOf 5 paperRows (2 ∷ 4 ∷ []))) (0 ∷ 1 ∷ 2 ∷ 3 ∷ 4 ∷ []) ≡ 1 ∷ 1 ∷ 2 ∷ 3 ∷ 10 ∷ []

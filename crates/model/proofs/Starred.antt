@@ -19,7 +19,7 @@ use Rattle.model.specs.Term.{textOfTerms, textOf, before, seenFrom, term
 use Rattle.model.specs.TermOperations.{symbolsOf, entriesOf}
 use Rattle.model.specs.Number.{reachesNone, stuckOr, acceptedOr, numberOutcome}
 use Rattle.model.specs.Write.{entriesFor, writeOutcome}
-use Rattle.model.proofs.Paper.{paperRows}
+use Rattle.model.specs.Paper.{paperRows, paperNames}
 use Rattle.model.proofs.Counting.{map-agree}
 use Rattle.model.proofs.Rows.{rowsOf-pack}
 use Rattle.model.proofs.Demand3.{checked-then}
@@ -40,7 +40,7 @@ pub data Fact : Type 0 where
 
 -- the entries of a term's tree
 abbrev pub entriesIn : List ℕ → List ℕ
-entriesIn text = entriesOf (97 ∷ 10 ∷ 98 ∷ 10 ∷ []) text
+entriesIn text = entriesOf paperNames text
 
 -- the parts of a tree's number: what `rowValue` and `numberOf` add up
 abbrev pub partsOf : Table → (ℕ → ℕ) → Tree → Said

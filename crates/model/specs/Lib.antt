@@ -19,3 +19,4 @@ pub mod TermRefusals
 pub mod Number
 pub mod Write
 pub mod Demand3
+pub mod Paper

@@ -1,16 +1,12 @@
 -- "The program `treenum` holds this table: the rows of Figure 3 are fixed in the program." Assumes nothing: these are definitions.
 use Prim.Native.Nat.{ℕ}
 use mathlib.Core.List.{List, [], _∷_}
-use Rattle.model.proofs.Paper.{paperRows}
+use Rattle.model.specs.Paper.{paperRows, paperNames}
 use Rattle.line.specs.Lines.{outputFor}
 use Rattle.line.specs.Held.{Holds, heldAfter, Prints}
 use Rattle.line.specs.declared.Line.{Line}
 use Rattle.treenum.specs.declared.Turn.{Turn}
 use Rattle.treenum.specs.declared.Turn.the-variants.{On, End}
-
--- "Symbol 1 is `a`, symbol 2 is `b`"
-abbrev pub paperNames : List ℕ
-paperNames = 97 ∷ 10 ∷ 98 ∷ 10 ∷ []
 
 -- what the program prints for its input: "there are five states", "The accepting list is 2, 4."
 abbrev pub printedFor : (input : List ℕ) → List ℕ

@@ -1,5 +1,5 @@
 use borrow.Author.Needs.{needs}
-use Rattle.model.proofs.Paper.{paperRows}
+use Rattle.model.specs.Paper.{paperRows}
 use Rattle.treenum.proofs.feed_line.Statement.{statement}
 use Rattle.treenum.proofs.feed_line.Tie as tie
 
