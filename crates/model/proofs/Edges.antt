@@ -9,17 +9,17 @@ use Rattle.model.specs.Table.{rowStart, howMany, howManyRows, firstRows,
 use Rattle.model.specs.Count.{sum, product, weight, stateCounts, grow, count, total, largest, rowLongest, stateLongest, longest}
 use Rattle.model.specs.Check.{allBelow, cut, tooMany, outOfRange, notBelow, repeated, rowGround, acceptingGround, stateGround, checkWithin, checkOutcome}
 
--- a table; what its states 0, 1, 2, 3 are to count, the entries of their longest trees, and the answer due
+-- a table; what its states 0 to 3 are to count, the entries of their longest trees, and the answer due
 data Edge : Type 0 where
   edge : (states : ℕ) (rows accepting : List ℕ) (counts longests : List ℕ) → Outcome → Edge
 
-abbrev given : Edge → List ℕ × List ℕ × Outcome
+abbrev given : Edge → Outcome × List ℕ × List ℕ
 given (edge states rows accepting counts longests answer) =
     let T = tableOf states rows accepting in
-    (map (count T) (0 ∷ 1 ∷ 2 ∷ 3 ∷ []), map (longest T) (0 ∷ 1 ∷ 2 ∷ 3 ∷ []), checkOutcome states rows accepting)
+    (checkOutcome states rows accepting, map (count T) (0 ∷ 1 ∷ 2 ∷ 3 ∷ []), map (longest T) (0 ∷ 1 ∷ 2 ∷ 3 ∷ []))
 
-abbrev due : Edge → List ℕ × List ℕ × Outcome
-due (edge states rows accepting counts longests answer) = (counts, longests, answer)
+abbrev due : Edge → Outcome × List ℕ × List ℕ
+due (edge states rows accepting counts longests answer) = (answer, counts, longests)
 
 -- the entries of a row
 abbrev pub row : (symbol target : ℕ) → List ℕ → List ℕ

@@ -1,11 +1,11 @@
 -- Tables checked, trees numbered and written, by computation against "The operations and what they turn away": each refusal from 1 to 16
--- but 8, which none is, and which of two comes first.
+-- (but 8, which no table gets) with its place, and which of two comes first.
 use Prim.Native.Nat.{ℕ, zero, suc, _+_, _≤_, _<_}
 use mathlib.Core.Path.{_≡_, refl, ap, _∙_}
-use mathlib.Core.Bool.{Bool, true, false, _&&_, _||_, and-false}
+use mathlib.Core.Bool.{true, false, _&&_, _||_, and-false}
 use mathlib.Core.List.{List, [], _∷_, _++_, map}
 use native.Mathlib.Omega.{arith}
-use lib.ListN.{length, getD, take, replicate, length-replicate, getD-replicate}
+use lib.ListN.{length, take, replicate, length-replicate, getD-replicate}
 use lib.Dec.{eqb, ltb}
 use borrow.Author.Tests.{lt-ltb, le-ltb, ne-eqb}
 use Rattle.model.specs.Answers.{Outcome, result, refused}
@@ -75,7 +75,7 @@ checked =
     -- the first faulty row decides, whatever its ground
     ∷ checks 1 (leaf ++ leaf ++ row 0 0 []) [] (refused 6 1)
     ∷ checks 1 (leaf ++ row 0 0 [] ++ leaf) [] (refused 4 1)
-    -- 7: no state; an earlier entry, and where the list is longer than the count of states; after the rows, before the states
+    -- 7: no state; an earlier entry, and where the list is longer than the count of states; after the rows
     ∷ checks 2 leaf (1 ∷ 2 ∷ []) (refused 7 1)
     ∷ checks 2 leaf (1 ∷ 0 ∷ 1 ∷ []) (refused 7 2)
     ∷ checks 1 (row 0 0 []) (7 ∷ []) (refused 4 0)
@@ -106,7 +106,7 @@ limits =
     ∷ checks 7 (both ++ row 5 5 (4 ∷ 4 ∷ []) ++ row 5 6 (replicate 8 2)) (6 ∷ []) (refused 9 5)
     -- 10: a row that counts 0 has no longest tree
     ∷ checks 7 (both ++ row 5 6 (5 ∷ replicate 8 2)) (6 ∷ []) (result 0)
-    -- 11, after 9 and 10; 7 comes before them
+    -- 11; 7 comes before 9
     ∷ checks 4 (below-above ++ row 5 3 (1 ∷ 2 ∷ [])) (3 ∷ 0 ∷ []) (refused 11 0)
     ∷ checks 4 (even ++ row 5 2 (1 ∷ 1 ∷ [])) (3 ∷ 4 ∷ []) (refused 7 1)
     ∷ []
