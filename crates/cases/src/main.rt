@@ -15,19 +15,399 @@
 // After an answer to 3, 4 or 5 comes what the lent list then holds: `;` and its entries, or, if there are
 // more than 64, `;`, their count, `entries` and their digest. Any other line prints `bad line`, and so does one
 // with a number that does not fit (names and texts: 8 bits; rows, accepting entries and trees: 16; all
-// others: 64), a list of more than 66,000 or more than 80,000 numbers.
+// others: 64), a list of more than 66,000, or more than 80,000 numbers, or 80,002 with the short forms written out.
 use libc::STDIN_FILENO;
 use libc::STDOUT_FILENO;
 use model::Answer;
 ghost use mathlib.Core.Path.{_≡_};
-ghost use lib.ListN.{length};
 ghost use Rattle.cases.specs.Decimal.{grown};
+ghost use Rattle.cases.specs.Lists.{Sound};
 
-// The numbers of a line.
+// The numbers of a line as it is read, and with its short forms written out.
 const ROOM: usize = 80000;
+
+const WHOLE: usize = 80002;
 
 // The entries of a list.
 const LIST: usize = 66000;
+
+// A place after every line. What is no case ends there.
+const NOWHERE: usize = usize::MAX;
+
+// The number at a place of a line, 0 after all.
+fn value_at(numbers: &[u64; WHOLE], at: usize) -> u64 {
+    if at >= WHOLE {
+        return 0;
+    }
+    numbers[at]
+}
+
+fn byte(n: u64) -> u8 {
+    if n > 255 {
+        return 0;
+    }
+    n as u8
+}
+
+// A list of a line. Its entries stand at the front of both arrays; one that does not fit a byte is 0 among the bytes.
+struct List {
+    // the place after it
+    end: usize,
+    count: usize,
+    entries: [u16; LIST],
+    bytes: [u8; LIST],
+}
+
+// What is no list, or does not fit.
+fn none() -> List
+    ensures { λ r. ⌜ Sound r ⌝ }
+{
+    List {
+        end: NOWHERE,
+        count: 0,
+        entries: [0u16; LIST],
+        bytes: [0u8; LIST],
+    }
+}
+
+// The list of the numbers from one place to before another, if it is not too long and no entry is above `most`.
+fn list_of(numbers: &[u64; WHOLE], mut at: usize, end: usize, most: u16) -> List
+    ensures { λ r. ⌜ Sound r ⌝ }
+{
+    let mut list = none();
+    let mut i: usize = 0;
+    while at < end {
+        if i >= LIST {
+            return none();
+        }
+        let x = value_at(numbers, at);
+        if x > most as u64 {
+            return none();
+        }
+        list.entries[i] = x as u16;
+        list.bytes[i] = byte(x);
+        i += 1;
+        at += 1;
+    }
+    list.count = i;
+    list.end = end;
+    list
+}
+
+// The list `k x1 .. xk` at a place of a line of n numbers, if each entry fits: 16 bits, or 8 if it is a list of bytes.
+fn list_at(numbers: &[u64; WHOLE], n: usize, at: usize, bytes: bool) -> List
+    ensures { λ r. ⌜ Sound r ⌝ }
+{
+    if at < n {
+        let from = at + 1;
+        let k = value_at(numbers, at) as usize;
+        if k <= n - from {
+            let most = if bytes { 255 } else { 65535 };
+            return list_of(numbers, from, from + k, most);
+        }
+    }
+    none()
+}
+
+// The first n entries.
+fn front(entries: &[u16; LIST], n: usize) -> &[u16] {
+    let all = &entries[..];
+    if n > LIST {
+        return all;
+    }
+    &all[0..n]
+}
+
+fn front_bytes(bytes: &[u8; LIST], n: usize) -> &[u8] {
+    let all = &bytes[..];
+    if n > LIST {
+        return all;
+    }
+    &all[0..n]
+}
+
+fn widened(b: u8) -> u16
+    ensures { λ r. ⌜ r ≡ b ⌝ }
+{
+    b as u16
+}
+
+// The bytes as entries.
+fn widen(bytes: &[u8; LIST]) -> [u16; LIST] {
+    let mut entries = [0u16; LIST];
+    let mut i: usize = 0;
+    while i < LIST {
+        entries[i] = widened(bytes[i]);
+        i += 1;
+    }
+    entries
+}
+
+fn print_entry(entry: u64) {
+    io::write_all(STDOUT_FILENO, b" ");
+    io::print_decimal(STDOUT_FILENO, entry);
+}
+
+// An answer of the operation.
+fn say(operation: u64, answer: Answer) {
+    match answer {
+        Answer::Result(n) => {
+            if operation == 1 {
+                io::write_all(STDOUT_FILENO, b"total");
+            } else {
+                io::write_all(STDOUT_FILENO, b"result");
+            }
+            print_entry(n);
+        }
+        Answer::Refused(r) => {
+            let kind = r.kind;
+            io::write_all(STDOUT_FILENO, b"refused");
+            print_entry(model::kind_number(kind) as u64);
+            print_entry(r.place);
+        }
+    }
+}
+
+// The digest with one entry more, of a list of n. The entry is printed if they are few.
+fn with_entry(n: usize, digest: u64, x: u16) -> u64 {
+    let entry = x as u64;
+    if n <= 64 {
+        print_entry(entry);
+    }
+    ((digest % 4294967291) * 65599 + entry) % 4294967291
+}
+
+// The digest of a list. Its entries are printed if they are few.
+fn print_entries(list: &[u16]) -> u64 {
+    let mut digest: u64 = 0;
+    let mut i: usize = 0;
+    while i < list.len() {
+        digest = with_entry(list.len(), digest, list[i]);
+        i += 1;
+    }
+    digest
+}
+
+// What a lent list, the first n of these entries, holds after the answer.
+fn say_list(entries: &[u16; LIST], n: usize) {
+    io::write_all(STDOUT_FILENO, b";");
+    let digest = print_entries(front(entries, n));
+    if n > 64 {
+        print_entry(n as u64);
+        io::write_all(STDOUT_FILENO, b" entries");
+        print_entry(digest);
+    }
+}
+
+// The place of the list after a table that ends at a place. Operation 3 has a number between them.
+fn third_place(operation: u64, at: usize) -> usize {
+    if operation != 3 {
+        return at;
+    }
+    if at >= WHOLE {
+        return NOWHERE;
+    }
+    at + 1
+}
+
+// The functions from here to `answer_case` give false where the n numbers are no case, and then print nothing.
+
+// Operations 2 and 3, after the table.
+fn answer_tree(
+    operation: u64,
+    states: u64,
+    rows: &[u16],
+    accepting: &[u16],
+    numbers: &[u64; WHOLE],
+    n: usize,
+    at: usize,
+) -> bool {
+    let third = list_at(numbers, n, third_place(operation, at), false);
+    if third.end != n {
+        return false;
+    }
+    let l = third.count;
+    let mut x = third.entries;
+    if operation == 2 {
+        say(2, rank::number(states, rows, accepting, front(&x, l)));
+        return true;
+    }
+    say(
+        3,
+        unrank::write(states, rows, accepting, value_at(numbers, at), &mut x[0..l]),
+    );
+    say_list(&x, l);
+    true
+}
+
+// Operations 1 to 3.
+fn answer_table(operation: u64, numbers: &[u64; WHOLE], n: usize) -> bool {
+    let states = value_at(numbers, 1);
+    let first = list_at(numbers, n, 2, false);
+    let second = list_at(numbers, n, first.end, false);
+    let rows = front(&first.entries, first.count);
+    let accepting = front(&second.entries, second.count);
+    if operation > 1 {
+        return answer_tree(operation, states, rows, accepting, numbers, n, second.end);
+    }
+    if second.end != n {
+        return false;
+    }
+    say(1, table::check(states, rows, accepting));
+    true
+}
+
+// Operations 4 and 5.
+fn answer_term(operation: u64, numbers: &[u64; WHOLE], n: usize) -> bool {
+    let first = list_at(numbers, n, 1, true);
+    let second = list_at(numbers, n, first.end, operation == 4);
+    let third = list_at(numbers, n, second.end, operation == 5);
+    if third.end != n {
+        return false;
+    }
+    let l = third.count;
+    let names = front_bytes(&first.bytes, first.count);
+    if operation == 4 {
+        let text = front_bytes(&second.bytes, second.count);
+        let mut x = third.entries;
+        say(4, term::read_term(names, text, &mut x[0..l]));
+        say_list(&x, l);
+        return true;
+    }
+    let tree = front(&second.entries, second.count);
+    let mut x = third.bytes;
+    say(5, term::write_term(names, tree, &mut x[0..l]));
+    say_list(&widen(&x), l);
+    true
+}
+
+fn answer_case(numbers: &[u64; WHOLE], n: usize) -> bool {
+    if n > WHOLE {
+        return false;
+    }
+    let operation = value_at(numbers, 0);
+    match operation {
+        1 | 2 | 3 => answer_table(operation, numbers, n),
+        4 | 5 => answer_term(operation, numbers, n),
+        _ => false,
+    }
+}
+
+// What stands at a place of a line: a number, or a short form.
+struct Run {
+    // how many numbers it stands for: its values in turn, over and over
+    count: u64,
+    // the places of its values, from one to before another
+    from: usize,
+    end: usize,
+}
+
+impl Run {
+    // The place of the value after one, and after the last that of the first.
+    fn after(self, place: usize) -> usize {
+        if place < self.end {
+            if place + 1 < self.end {
+                return place + 1;
+            }
+        }
+        self.from
+    }
+}
+
+// Whether a short form begins at a place.
+fn is_short(line: &[u64; WHOLE], at: usize) -> bool {
+    if at < 2 {
+        return false;
+    }
+    value_at(line, at) == 99999
+}
+
+// Where k numbers from a place on end in a line of n: 0 where there is none, or not each.
+fn end_of(from: usize, k: usize, n: usize) -> usize {
+    if k > 0 {
+        if from <= n {
+            if k <= n - from {
+                return from + k;
+            }
+        }
+    }
+    0
+}
+
+// What stands at a place of a line of n numbers. Its end is 0 where that is nothing.
+fn run_at(line: &[u64; WHOLE], n: usize, at: usize) -> Run {
+    if at >= ROOM {
+        return Run {
+            count: 0,
+            from: 0,
+            end: 0,
+        };
+    }
+    if !is_short(line, at) {
+        return Run {
+            count: 1,
+            from: at,
+            end: at + 1,
+        };
+    }
+    let from = at + 3;
+    let k = value_at(line, at + 2) as usize;
+    Run {
+        count: value_at(line, at + 1),
+        from: from,
+        end: end_of(from, k, n),
+    }
+}
+
+// The numbers of a run after those that are written. How many then are: NOWHERE where there is no room.
+fn write_run(
+    line: &[u64; WHOLE],
+    run: Run,
+    numbers: &mut [u64; WHOLE],
+    mut filled: usize,
+) -> usize {
+    let mut left = run.count;
+    let mut place = run.from;
+    while left > 0 {
+        if filled >= WHOLE {
+            return NOWHERE;
+        }
+        numbers[filled] = value_at(line, place);
+        place = run.after(place);
+        filled += 1;
+        left -= 1;
+    }
+    filled
+}
+
+// The n numbers of the line, the short forms written out. How many they then are: NOWHERE where they cannot be.
+fn write_out(line: &[u64; WHOLE], n: usize, numbers: &mut [u64; WHOLE]) -> usize {
+    if n > ROOM {
+        return NOWHERE;
+    }
+    let mut at: usize = 0;
+    let mut filled: usize = 0;
+    while at < n {
+        let run = run_at(line, n, at);
+        if run.end <= at {
+            return NOWHERE;
+        }
+        filled = write_run(line, run, numbers, filled);
+        at = run.end;
+    }
+    filled
+}
+
+// Answers a line of n numbers.
+fn answer_line(line: &[u64; WHOLE], n: usize) {
+    let mut numbers = [0u64; WHOLE];
+    let m = write_out(line, n, &mut numbers);
+    if answer_case(&numbers, m) {
+        io::write_all(STDOUT_FILENO, b"\n");
+    } else {
+        io::write_all(STDOUT_FILENO, b"bad line\n");
+    }
+}
 
 // A number with one decimal digit more.
 enum Grown {
@@ -50,25 +430,17 @@ fn grow(value: u64, digit: u64) -> Grown
 
 // A line so far. Its numbers are kept in a list beside it.
 struct Line {
-    // every byte so far can stand in such a line
-    good: bool,
-    // how many numbers are whole
+    // how many numbers are whole: NOWHERE in a spoilt line
     filled: usize,
     // the number that is being read has a digit, and is `value` so far
     begun: bool,
     value: u64,
 }
 
-enum Fed {
-    More(Line),
-    Whole(Line),
-}
-
-// A line of no bytes, or one that is spoilt.
-fn blank(good: bool) -> Line {
+// A line that has so many numbers, and no digit of the next.
+fn line_of(filled: usize) -> Line {
     Line {
-        good: good,
-        filled: 0,
+        filled: filled,
         begun: false,
         value: 0,
     }
@@ -76,607 +448,83 @@ fn blank(good: bool) -> Line {
 
 impl Line {
     // A digit more.
-    fn with_digit(self, digit: u64) -> Line {
-        match grow(self.value, digit) {
-            Grown::TooLarge => blank(false),
-            Grown::Fits(v) => Line {
-                good: self.good,
-                filled: self.filled,
-                begun: true,
-                value: v,
-            },
+    fn with_digit(mut self, b: u8) -> Line {
+        if b >= b'0' {
+            if b <= b'9' {
+                if let Grown::Fits(v) = grow(self.value, (b - b'0') as u64) {
+                    self.begun = true;
+                    self.value = v;
+                    return self;
+                }
+            }
         }
+        line_of(NOWHERE)
     }
 
     // The number that is being read ends here.
-    fn closed(self, numbers: &mut [u64; ROOM]) -> Line {
-        if !self.good {
-            return blank(false);
+    fn closed(self, numbers: &mut [u64; WHOLE]) -> Line {
+        if self.begun {
+            let filled = self.filled;
+            if filled < ROOM {
+                numbers[filled] = self.value;
+                return line_of(filled + 1);
+            }
         }
-        if !self.begun {
-            return blank(false);
-        }
-        let filled = self.filled;
-        if filled >= ROOM {
-            return blank(false);
-        }
-        numbers[filled] = self.value;
-        Line {
-            good: true,
-            filled: filled + 1,
-            begun: false,
-            value: 0,
-        }
+        line_of(NOWHERE)
+    }
+
+    // The line ends here, and is answered.
+    fn ended(self, numbers: &mut [u64; WHOLE]) {
+        let line = self.closed(&mut *numbers);
+        answer_line(numbers, line.filled);
     }
 
     // A byte more.
-    fn feed(self, b: u8, numbers: &mut [u64; ROOM]) -> Fed {
+    fn feed(self, b: u8, numbers: &mut [u64; WHOLE]) -> Line {
         if b == b'\n' {
-            return Fed::Whole(self.closed(numbers));
+            self.ended(numbers);
+            return line_of(0);
         }
         if b == b' ' {
-            return Fed::More(self.closed(numbers));
+            return self.closed(numbers);
         }
-        if !self.good {
-            return Fed::More(self);
-        }
-        if b < b'0' {
-            return Fed::More(blank(false));
-        }
-        if b > b'9' {
-            return Fed::More(blank(false));
-        }
-        Fed::More(self.with_digit((b - b'0') as u64))
+        self.with_digit(b)
     }
-}
 
-// An answer, its result under a word.
-fn say(word: &[u8], answer: Answer) {
-    match answer {
-        Answer::Result(n) => {
-            io::write_all(STDOUT_FILENO, word);
-            io::print_decimal(STDOUT_FILENO, n);
-        }
-        Answer::Refused(r) => {
-            let kind = r.kind;
-            io::write_all(STDOUT_FILENO, b"refused ");
-            io::print_decimal(STDOUT_FILENO, model::kind_number(kind) as u64);
-            io::write_all(STDOUT_FILENO, b" ");
-            io::print_decimal(STDOUT_FILENO, r.place);
-        }
-    }
-}
-
-fn wide(x: u16) -> u64
-    ensures { λ r. ⌜ r ≡ x ⌝ }
-{
-    x as u64
-}
-
-// A digest with one entry more.
-fn digested(digest: u64, entry: u64) -> u64 {
-    ((digest % 4294967291) * 65599 + entry % 4294967291) % 4294967291
-}
-
-fn digest_of(list: &[u16]) -> u64 {
-    let mut digest: u64 = 0;
-    let mut i: usize = 0;
-    while i < list.len() {
-        digest = digested(digest, wide(list[i]));
-        i += 1;
-    }
-    digest
-}
-
-fn print_entry(entry: u64) {
-    io::write_all(STDOUT_FILENO, b" ");
-    io::print_decimal(STDOUT_FILENO, entry);
-}
-
-fn print_entries(list: &[u16]) {
-    let mut i: usize = 0;
-    while i < list.len() {
-        print_entry(wide(list[i]));
-        i += 1;
-    }
-}
-
-fn print_list(list: &[u16]) {
-    let n = list.len();
-    if n <= 64 {
-        print_entries(list);
-        return;
-    }
-    print_entry(n as u64);
-    io::write_all(STDOUT_FILENO, b" entries");
-    print_entry(digest_of(list));
-}
-
-// What a lent list, the first n of these entries, holds after the answer.
-fn say_list(list: &[u16; LIST], n: usize) {
-    if n > LIST {
-        return;
-    }
-    let all = &list[..];
-    io::write_all(STDOUT_FILENO, b";");
-    print_list(&all[0..n]);
-    io::write_all(STDOUT_FILENO, b"\n");
-}
-
-// The numbers as 16-bit entries at the front of the list. False where one does not fit.
-fn entries_of(numbers: &[u64], list: &mut [u16; LIST]) -> bool
-    ensures { λ _. ⌜ length (now (list .exit)) ≡ length (now (list .entry)) ⌝ }
-{
-    let mut i: usize = 0;
-    while i < numbers.len() {
-        if i >= LIST {
-            return false;
-        }
-        let n = numbers[i];
-        if n > 65535 {
-            return false;
-        }
-        list[i] = n as u16;
-        i += 1;
-    }
-    true
-}
-
-// The numbers as bytes at the front of the list. False where one does not fit.
-fn bytes_of(numbers: &[u64], list: &mut [u8; LIST]) -> bool
-    ensures { λ _. ⌜ length (now (list .exit)) ≡ length (now (list .entry)) ⌝ }
-{
-    let mut i: usize = 0;
-    while i < numbers.len() {
-        if i >= LIST {
-            return false;
-        }
-        let n = numbers[i];
-        if n > 255 {
-            return false;
-        }
-        list[i] = n as u8;
-        i += 1;
-    }
-    true
-}
-
-fn widened(b: u8) -> u16
-    ensures { λ r. ⌜ r ≡ b ⌝ }
-{
-    b as u16
-}
-
-// All bytes as 16-bit entries.
-fn widen(bytes: &[u8; LIST], list: &mut [u16; LIST]) {
-    let mut i: usize = 0;
-    while i < LIST {
-        list[i] = widened(bytes[i]);
-        i += 1;
-    }
-}
-
-fn size(x: u64) -> usize
-    ensures { λ r. ⌜ r ≡ x ⌝ }
-{
-    x as usize
-}
-
-// The functions from here to `answer_case` give false where the numbers are no case, and then print nothing.
-
-// The numbers `l t1 .. tl` after a table.
-fn answer_number(states: u64, rows: &[u16], accepting: &[u16], numbers: &[u64]) -> bool {
-    let n = numbers.len();
-    if n < 1 {
-        return false;
-    }
-    let l = n - 1;
-    if size(numbers[0]) != l {
-        return false;
-    }
-    if l > LIST {
-        return false;
-    }
-    let mut t = [0u16; LIST];
-    if !entries_of(&numbers[1..], &mut t) {
-        return false;
-    }
-    say(b"result ", rank::number(states, rows, accepting, &t[0..l]));
-    io::write_all(STDOUT_FILENO, b"\n");
-    true
-}
-
-// The numbers `n l x1 .. xl` after a table.
-fn answer_tree(states: u64, rows: &[u16], accepting: &[u16], numbers: &[u64]) -> bool {
-    let n = numbers.len();
-    if n < 2 {
-        return false;
-    }
-    let l = n - 2;
-    if size(numbers[1]) != l {
-        return false;
-    }
-    if l > LIST {
-        return false;
-    }
-    let mut x = [0u16; LIST];
-    if !entries_of(&numbers[2..], &mut x) {
-        return false;
-    }
-    say(
-        b"result ",
-        unrank::write(states, rows, accepting, numbers[0], &mut x[0..l]),
-    );
-    say_list(&x, l);
-    true
-}
-
-// A table and the numbers after it.
-fn with_table(
-    operation: u64,
-    states: u64,
-    rows: &[u16],
-    accepting: &[u16],
-    numbers: &[u64],
-) -> bool {
-    if operation == 2 {
-        return answer_number(states, rows, accepting, numbers);
-    }
-    if operation == 3 {
-        return answer_tree(states, rows, accepting, numbers);
-    }
-    if operation != 1 {
-        return false;
-    }
-    if numbers.len() != 0 {
-        return false;
-    }
-    say(b"total ", table::check(states, rows, accepting));
-    io::write_all(STDOUT_FILENO, b"\n");
-    true
-}
-
-// The numbers `m a1 .. am` of an accepting list, and those after them.
-fn take_accepting(operation: u64, states: u64, rows: &[u16], numbers: &[u64]) -> bool {
-    let n = numbers.len();
-    if n < 1 {
-        return false;
-    }
-    let m = size(numbers[0]);
-    if m > n - 1 {
-        return false;
-    }
-    if m > LIST {
-        return false;
-    }
-    let end = m + 1;
-    let mut a = [0u16; LIST];
-    if !entries_of(&numbers[1..end], &mut a) {
-        return false;
-    }
-    with_table(operation, states, rows, &a[0..m], &numbers[end..])
-}
-
-// The numbers `k e1 .. ek` of the rows, and those after them.
-fn take_rows(operation: u64, states: u64, numbers: &[u64]) -> bool {
-    let n = numbers.len();
-    if n < 1 {
-        return false;
-    }
-    let k = size(numbers[0]);
-    if k > n - 1 {
-        return false;
-    }
-    if k > LIST {
-        return false;
-    }
-    let end = k + 1;
-    let mut r = [0u16; LIST];
-    if !entries_of(&numbers[1..end], &mut r) {
-        return false;
-    }
-    take_accepting(operation, states, &r[0..k], &numbers[end..])
-}
-
-fn answer_read(names: &[u8], text: &[u64], lent: &[u64]) -> bool {
-    let m = text.len();
-    let l = lent.len();
-    if m > LIST {
-        return false;
-    }
-    if l > LIST {
-        return false;
-    }
-    let mut t = [0u8; LIST];
-    if !bytes_of(text, &mut t) {
-        return false;
-    }
-    let mut x = [0u16; LIST];
-    if !entries_of(lent, &mut x) {
-        return false;
-    }
-    say(b"result ", term::read_term(names, &t[0..m], &mut x[0..l]));
-    say_list(&x, l);
-    true
-}
-
-fn answer_write(names: &[u8], tree: &[u64], lent: &[u64]) -> bool {
-    let m = tree.len();
-    let l = lent.len();
-    if m > LIST {
-        return false;
-    }
-    if l > LIST {
-        return false;
-    }
-    let mut t = [0u16; LIST];
-    if !entries_of(tree, &mut t) {
-        return false;
-    }
-    let mut x = [0u8; LIST];
-    if !bytes_of(lent, &mut x) {
-        return false;
-    }
-    say(b"result ", term::write_term(names, &t[0..m], &mut x[0..l]));
-    let mut shown = [0u16; LIST];
-    widen(&x, &mut shown);
-    say_list(&shown, l);
-    true
-}
-
-fn answer_term(operation: u64, names: &[u64], term: &[u64], lent: &[u64]) -> bool {
-    let k = names.len();
-    if k > LIST {
-        return false;
-    }
-    let mut n = [0u8; LIST];
-    if !bytes_of(names, &mut n) {
-        return false;
-    }
-    if operation == 4 {
-        return answer_read(&n[0..k], term, lent);
-    }
-    if operation == 5 {
-        return answer_write(&n[0..k], term, lent);
-    }
-    false
-}
-
-// The numbers `n1 .. nk m t1 .. tm l x1 .. xl` of a term.
-fn take_term(operation: u64, k: usize, numbers: &[u64]) -> bool {
-    let n = numbers.len();
-    if n < 2 {
-        return false;
-    }
-    if k > n - 2 {
-        return false;
-    }
-    let left = n - 2 - k;
-    let m = size(numbers[k]);
-    if m > left {
-        return false;
-    }
-    let from = k + 1;
-    let end = from + m;
-    if size(numbers[end]) != left - m {
-        return false;
-    }
-    answer_term(
-        operation,
-        &numbers[0..k],
-        &numbers[from..end],
-        &numbers[end + 1..],
-    )
-}
-
-// The numbers of a line: its first two, and the n after them, with the short forms written out.
-fn answer_numbers(operation: u64, second: u64, numbers: &[u64; ROOM], n: usize) -> bool {
-    if n > ROOM {
-        return false;
-    }
-    let all = &numbers[..];
-    if operation < 4 {
-        return take_rows(operation, second, &all[0..n]);
-    }
-    take_term(operation, size(second), &all[0..n])
-}
-
-// How far a line's numbers are written out: the next number to be read, and the count of those written. Where they cannot be, next is 0.
-struct Reached {
-    next: usize,
-    filled: usize,
-}
-
-fn stuck() -> Reached {
-    Reached { next: 0, filled: 0 }
-}
-
-// The place after one in a list of n that is taken over and over.
-fn after(place: usize, n: usize) -> usize {
-    if n == 0 {
-        return 0;
-    }
-    if place >= n - 1 {
-        return 0;
-    }
-    place + 1
-}
-
-fn value_at(values: &[u64], place: usize) -> u64 {
-    if place >= values.len() {
-        return 0;
-    }
-    values[place]
-}
-
-// The values over and over, from one entry to before another.
-fn repeat(values: &[u64], numbers: &mut [u64; ROOM], from: usize, to: usize) {
-    let n = values.len();
-    let mut place: usize = 0;
-    let mut i: usize = from;
-    while i < to {
-        if i >= ROOM {
-            return;
-        }
-        numbers[i] = value_at(values, place);
-        place = after(place, n);
-        i += 1;
-    }
-}
-
-// The short form that begins at a number of the line.
-fn spread_run(line: &[u64], at: usize, numbers: &mut [u64; ROOM], filled: usize) -> Reached {
-    let n = line.len();
-    if at >= n {
-        return stuck();
-    }
-    if n - at < 4 {
-        return stuck();
-    }
-    let count = size(line[at + 1]);
-    let k = size(line[at + 2]);
-    if k == 0 {
-        return stuck();
-    }
-    if k > n - at - 3 {
-        return stuck();
-    }
-    if filled > ROOM {
-        return stuck();
-    }
-    if count > ROOM - filled {
-        return stuck();
-    }
-    let from = at + 3;
-    let end = from + k;
-    let to = filled + count;
-    repeat(&line[from..end], numbers, filled, to);
-    Reached {
-        next: end,
-        filled: to,
-    }
-}
-
-// A number of the line, or the short form that begins there.
-fn spread_one(line: &[u64], at: usize, numbers: &mut [u64; ROOM], filled: usize) -> Reached {
-    if at >= line.len() {
-        return stuck();
-    }
-    let v = line[at];
-    if v == 99999 {
-        return spread_run(line, at, numbers, filled);
-    }
-    if filled >= ROOM {
-        return stuck();
-    }
-    numbers[filled] = v;
-    Reached {
-        next: at + 1,
-        filled: filled + 1,
-    }
-}
-
-// All numbers of the line.
-fn spread(line: &[u64], numbers: &mut [u64; ROOM]) -> Reached {
-    let mut at: usize = 0;
-    let mut filled: usize = 0;
-    while at < line.len() {
-        let s = spread_one(line, at, numbers, filled);
-        if s.next <= at {
-            return stuck();
-        }
-        at = s.next;
-        filled = s.filled;
-    }
-    Reached {
-        next: 1,
-        filled: filled,
-    }
-}
-
-fn answer_case(line: Line, raw: &[u64]) -> bool {
-    if !line.good {
-        return false;
-    }
-    let filled = line.filled;
-    if filled < 2 {
-        return false;
-    }
-    if filled > raw.len() {
-        return false;
-    }
-    let mut numbers = [0u64; ROOM];
-    let s = spread(&raw[2..filled], &mut numbers);
-    if s.next == 0 {
-        return false;
-    }
-    answer_numbers(raw[0], raw[1], &numbers, s.filled)
-}
-
-fn answer_line(line: Line, raw: &[u64]) {
-    if !answer_case(line, raw) {
-        io::write_all(STDOUT_FILENO, b"bad line\n");
-    }
-}
-
-// The bytes of one read. A line that ends among them is answered.
-fn feed_all(line: Line, numbers: &mut [u64; ROOM], bytes: &[u8]) -> Line {
-    let mut now_line = line;
-    let mut i: usize = 0;
-    while i < bytes.len() {
-        match now_line.feed(bytes[i], numbers) {
-            Fed::More(l) => {
-                now_line = l;
-                i += 1;
-            }
-            Fed::Whole(l) => {
-                answer_line(l, numbers);
-                now_line = blank(true);
-                i += 1;
-            }
-        }
-    }
-    now_line
-}
-
-enum Turn {
-    On(Line),
-    End(Line),
-}
-
-// One read.
-fn take_turn(line: Line, numbers: &mut [u64; ROOM]) -> Turn {
-    let mut bytes = io::large_buffer();
-    let got = libc::read(STDIN_FILENO, &mut bytes);
-    if got <= 0 {
-        return Turn::End(line);
-    }
-    let n = io::count(got, &bytes);
-    Turn::On(feed_all(line, numbers, &bytes[..n]))
-}
-
-// The last line, where no byte 10 ends it. A line of no bytes is none.
-fn end(line: Line, numbers: &mut [u64; ROOM]) {
-    if line.good && line.filled == 0 && !line.begun {
-        return;
-    }
-    answer_line(line.closed(numbers), numbers);
-}
-
-fn main() {
-    let mut numbers = [0u64; ROOM];
-    let mut line = blank(true);
-    let mut turns = u64::MAX;
-    while turns > 0 {
-        match take_turn(line, &mut numbers) {
-            Turn::On(l) => {
-                line = l;
-                turns -= 1;
-            }
-            Turn::End(l) => {
-                end(l, &mut numbers);
+    // No byte more. A line of no bytes is none.
+    fn last(self, numbers: &mut [u64; WHOLE]) {
+        if self.filled == 0 {
+            if !self.begun {
                 return;
             }
         }
+        self.ended(numbers);
+    }
+}
+
+// The bytes of one read.
+fn feed_all(mut line: Line, bytes: &[u8], numbers: &mut [u64; WHOLE]) -> Line {
+    let mut i: usize = 0;
+    while i < bytes.len() {
+        line = line.feed(bytes[i], numbers);
+        i += 1;
+    }
+    line
+}
+
+fn main() {
+    let mut numbers = [0u64; WHOLE];
+    let mut line = line_of(0);
+    let mut turns = u64::MAX;
+    while turns > 0 {
+        let mut bytes = io::large_buffer();
+        let got = libc::read(STDIN_FILENO, &mut bytes);
+        let n = io::count(got, &bytes);
+        if n == 0 {
+            line.last(&mut numbers);
+            return;
+        }
+        line = feed_all(line, &bytes[..n], &mut numbers);
+        turns -= 1;
     }
 }

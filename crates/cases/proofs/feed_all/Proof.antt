@@ -6,10 +6,10 @@ use Rattle.cases.proofs.feed_all.Statement.{statement}
 use Rattle.cases.proofs.feed_all.Tie as tie
 
 abbrev Inv-loop : tie.InvT-loop
-Inv-loop numbers₀ bytes now-line₀ i₀ numbers now-line i = i ≤ length bytes
+Inv-loop line₀ bytes numbers₀ i₀ line numbers i = i ≤ length bytes
 
 abbrev μ-loop : tie.MeasureT-loop
-μ-loop numbers₀ bytes now-line₀ i₀ numbers now-line i = length bytes - i
+μ-loop line₀ bytes numbers₀ i₀ line numbers i = length bytes - i
 
 pub feed-all-spec : {M : Type 1} → statement M
 feed-all-spec =
@@ -19,13 +19,6 @@ feed-all-spec =
     μ-loop
     (λ c. search needs)
     (λ c. search needs)
-    (λ c κs. search needs)
-    (λ c. search needs)
-    (λ c. search needs)
-    (λ c. search needs)
-    (λ c. search needs)
-    (λ c. search needs)
-    (λ c κs. search needs)
     (λ c κs. search needs)
     (λ c. search needs)
     (λ c. search needs)

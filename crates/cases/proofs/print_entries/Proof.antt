@@ -6,10 +6,10 @@ use Rattle.cases.proofs.print_entries.Statement.{statement}
 use Rattle.cases.proofs.print_entries.Tie as tie
 
 abbrev Inv-loop : tie.InvT-loop
-Inv-loop list i₀ i = i ≤ length list
+Inv-loop list digest₀ i₀ digest i = i ≤ length list
 
 abbrev μ-loop : tie.MeasureT-loop
-μ-loop list i₀ i = length list - i
+μ-loop list digest₀ i₀ digest i = length list - i
 
 pub print-entries-spec : {M : Type 1} → statement M
 print-entries-spec =
@@ -20,7 +20,6 @@ print-entries-spec =
     (λ c. search needs)
     (λ c. search needs)
     (λ c. search needs)
-    (λ c κs. search needs)
     (λ c κs. search needs)
     (λ c. search needs)
     (λ c. search needs)

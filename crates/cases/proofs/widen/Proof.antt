@@ -5,10 +5,10 @@ use Rattle.cases.proofs.widen.Statement.{statement}
 use Rattle.cases.proofs.widen.Tie as tie
 
 abbrev Inv-loop : tie.InvT-loop
-Inv-loop bytes list₀ i₀ list i = i ≤ 66000
+Inv-loop bytes entries₀ i₀ entries i = i ≤ 66000
 
 abbrev μ-loop : tie.MeasureT-loop
-μ-loop bytes list₀ i₀ list i = 66000 - i
+μ-loop bytes entries₀ i₀ entries i = 66000 - i
 
 pub widen-spec : {M : Type 1} → statement M
 widen-spec =
