@@ -1,6 +1,6 @@
 -- The check of a table: it passes just where no ground of document 01 holds, and a table that passes is good.
 use Prim.Native.Nat.{ℕ, _-_, _≤_, _<_}
-use mathlib.Core.Path.{_≡_, ap, sym, _∙_}
+use mathlib.Core.Path.{_≡_, refl, ap, sym, _∙_}
 use mathlib.Core.Bool.{true, false, not, _||_}
 use mathlib.Core.List.{List, [], _∷_}
 use mathlib.Core.Logic.{_⊎_, inl, inr, _↔_}
@@ -12,7 +12,7 @@ use lib.Dec.{eqb, ltb, leb}
 use borrow.Author.Tests.{ltb-true, ltb-false, leb-false, eqb-false, le-ltb, not-false}
 use Rattle.model.specs.Answers.{result, refused}
 use Rattle.model.specs.Choice.{anyBelow}
-use Rattle.model.specs.Table.{Row, Table, noRow, pack, countAt, rowStart, rowNumbered, howManyRows, rowsOf, rowIs, acceptingStates, tableOf, Whole}
+use Rattle.model.specs.Table.{Row, Table, noRow, pack, countAt, rowStart, rowNumbered, howManyRows, rowsOf, rowIs, howManyEntries, stateAt, acceptingStates, tableOf, Whole}
 use Rattle.model.specs.Count.{count, total, longest}
 use Rattle.model.specs.Check.{allBelow, isState, cut, tooMany, outOfRange, notBelow, repeated, rowGround, acceptingGround, stateGround, checkWithin, countLimit, checkOutcome, Passes}
 use Rattle.model.proofs.Choice.{if-no, if-result, if-zero, or-false, and-true, not-both, no-fault, no-fault-back, any-false}
@@ -25,8 +25,8 @@ use Rattle.model.proofs.Rows.{args-length, rowsOf-length, rowsOf-at, pa
 pub record NoGround (limit states : ℕ) (rows accepting : List ℕ) : Type 0 where
   pub few-states : states ≤ 256
   pub good-rows : (i : ℕ) → i < howManyRows rows → rowGround states rows i ≡ 0
-  pub good-entries : (i : ℕ) → i < length (acceptingStates accepting) → acceptingGround states (acceptingStates accepting) i ≡ 0
-  pub few-entries : length (acceptingStates accepting) ≤ states
+  pub good-entries : (i : ℕ) → i < howManyEntries accepting → acceptingGround states accepting i ≡ 0
+  pub few-entries : howManyEntries accepting ≤ states
   pub good-states : (q : ℕ) → q < states → stateGround limit (tableOf states rows accepting) q ≡ 0
   pub small-total : total (tableOf states rows accepting) ≤ limit
 
@@ -36,8 +36,8 @@ module _ (limit states : ℕ) (rows accepting : List ℕ) where
   passes g =
       if-no (ltb 256 states) (refused 1 0) _ (le-ltb 256 states (g .few-states))
       ∙ no-fault (howManyRows rows) (rowGround states rows) _ (g .good-rows)
-      ∙ no-fault (length (acceptingStates accepting)) (acceptingGround states (acceptingStates accepting)) _ (g .good-entries)
-      ∙ if-no (ltb states (length (acceptingStates accepting))) (refused 8 0) _ (le-ltb states (length (acceptingStates accepting)) (g .few-entries))
+      ∙ no-fault (howManyEntries accepting) (acceptingGround states accepting) _ (g .good-entries)
+      ∙ if-no (ltb states (howManyEntries accepting)) (refused 8 0) _ (le-ltb states (howManyEntries accepting) (g .few-entries))
       ∙ no-fault states (stateGround limit (tableOf states rows accepting)) _ (g .good-states)
       ∙ if-no (ltb limit (total (tableOf states rows accepting))) (refused 11 0) _ (le-ltb limit (total (tableOf states rows accepting)) (g .small-total))
 
@@ -47,8 +47,8 @@ module _ (limit states : ℕ) (rows accepting : List ℕ) where
       let T = tableOf states rows accepting in
       let a = if-result (ltb 256 states) 1 0 n _ e in
       let b = no-fault-back (howManyRows rows) n (rowGround states rows) _ (a .1) in
-      let c = no-fault-back (length (acceptingStates accepting)) n (acceptingGround states (acceptingStates accepting)) _ (b .1) in
-      let d = if-result (ltb states (length (acceptingStates accepting))) 8 0 n _ (c .1) in
+      let c = no-fault-back (howManyEntries accepting) n (acceptingGround states accepting) _ (b .1) in
+      let d = if-result (ltb states (howManyEntries accepting)) 8 0 n _ (c .1) in
       let f = no-fault-back states n (stateGround limit T) _ (d .1) in
       let h = if-result (ltb limit (total T)) 11 0 n _ (f .1) in
       let z : result (total T) ≡ result n = h .1 in (
@@ -56,7 +56,7 @@ module _ (limit states : ℕ) (rows accepting : List ℕ) where
           few-states = ltb-false 256 states (a .0);
           good-rows = b .0;
           good-entries = c .0;
-          few-entries = ltb-false states (length (acceptingStates accepting)) (d .0);
+          few-entries = ltb-false states (howManyEntries accepting) (d .0);
           good-states = f .0;
           small-total = ltb-false limit (total T) (h .0);
         },
@@ -152,15 +152,21 @@ row-good states rows i e =
 
 -- ---- one accepting entry, one state
 
-pub entry-good : (states : ℕ) (accepting : List ℕ) (i : ℕ) → acceptingGround states accepting i ≡ 0
-    → (getD accepting i 0 < states) × ((j : ℕ) → j < i → getD accepting j 0 ≡ getD accepting i 0 → ⊥)
+-- what an accepting entry without a ground is like
+pub record GoodEntry (states : ℕ) (accepting : List ℕ) (i : ℕ) : Type 0 where
+  pub state : stateAt accepting i < states
+  pub fresh : (j : ℕ) → j < i → stateAt accepting j ≡ stateAt accepting i → ⊥
+
+pub entry-good : (states : ℕ) (accepting : List ℕ) (i : ℕ) → acceptingGround states accepting i ≡ 0 → GoodEntry states accepting i
 unfolding acceptingGround
 entry-good states accepting i e =
-    let a = if-zero (not (isState states (getD accepting i 0)) || anyBelow i (λ j. eqb (getD accepting j 0) (getD accepting i 0))) 6 0 e in
-    let b = or-false (not (isState states (getD accepting i 0))) (anyBelow i (λ j. eqb (getD accepting j 0) (getD accepting i 0))) (a .0) in (
-      ltb-true (getD accepting i 0) states (not-false (isState states (getD accepting i 0)) (b .0)),
-      λ j l. eqb-false (getD accepting j 0) (getD accepting i 0) (any-false i (λ j. eqb (getD accepting j 0) (getD accepting i 0)) (b .1) j l),
-    )
+    let again = anyBelow i (λ j. eqb (stateAt accepting j) (stateAt accepting i)) in
+    let a = if-zero (not (isState states (stateAt accepting i)) || again) 6 0 e in
+    let b = or-false (not (isState states (stateAt accepting i))) again (a .0) in
+    record {
+      state = ltb-true (stateAt accepting i) states (not-false (isState states (stateAt accepting i)) (b .0));
+      fresh = λ j l. eqb-false (stateAt accepting j) (stateAt accepting i) (any-false i (λ j. eqb (stateAt accepting j) (stateAt accepting i)) (b .1) j l);
+    }
 
 pub state-good : (limit : ℕ) (T : Table) (q : ℕ) → stateGround limit T q ≡ 0 → (count T q ≤ limit) × (longest T q ≤ 4096)
 unfolding stateGround
@@ -183,30 +189,47 @@ apart n R h i j li lj r r′ = go (decLe i j)
     go (yes l) = near (eq-or-lt-of-le l)
     go (no l) = absurd (h i li j (lt-of-not-le l) r′)
 
--- entries without a ground: each is a state, and no two are the same
-pub entries-once : (states : ℕ) (accepting : List ℕ) → ((i : ℕ) → i < length accepting → acceptingGround states accepting i ≡ 0) → Once accepting
-entries-once states accepting h i j li lj e =
-    apart (length accepting) (λ i j. getD accepting i 0 ≡ getD accepting j 0) (λ i l. entry-good states accepting i (h i l) .1) i j li lj e (sym e)
+-- the states of a lent accepting list are those that its entries name
+pub states-length : (accepting : List ℕ) → length (acceptingStates accepting) ≡ howManyEntries accepting
+states-length accepting = refl
 
--- then there are no more of them than states: where 8 is asked for, it does not hold
-pub entries-few : (states : ℕ) (accepting : List ℕ) → ((i : ℕ) → i < length accepting → acceptingGround states accepting i ≡ 0) → length accepting ≤ states
-entries-few states accepting h =
-    once-few states accepting (λ i l. entry-good states accepting i (h i l) .0) (entries-once states accepting h)
+pub states-at : (accepting : List ℕ) (i : ℕ) → getD (acceptingStates accepting) i 0 ≡ stateAt accepting i
+states-at accepting i = refl
+
+-- entries without a ground: each is a state, and no two are the same
+module _ (states : ℕ) (accepting : List ℕ) (good : (i : ℕ) → i < howManyEntries accepting → acceptingGround states accepting i ≡ 0) where
+  pub entries-listed : AllBelow states (acceptingStates accepting)
+  entries-listed i l = rw (states-at accepting i) (entry-good states accepting i (good i (rw (states-length accepting) at l)) .state)
+
+  pub entries-once : Once (acceptingStates accepting)
+  entries-once i j li lj e =
+      apart (howManyEntries accepting) (λ i j. stateAt accepting i ≡ stateAt accepting j) (λ i l. entry-good states accepting i (good i l) .fresh)
+      i j (rw (states-length accepting) at li) (rw (states-length accepting) at lj) d (sym d)
+    where
+      d : stateAt accepting i ≡ stateAt accepting j
+      d = sym (states-at accepting i) ∙ e ∙ states-at accepting j
+
+  -- then there are no more of them than states: where 8 is asked for, it does not hold
+  pub entries-few : howManyEntries accepting ≤ states
+  entries-few = omega (arith, states-length accepting, once-few states (acceptingStates accepting) entries-listed entries-once)
 
 -- rows and accepting entries for which no ground holds, whatever the states count
 module _ (states : ℕ) (rows accepting : List ℕ) (good-rows : (i : ℕ) → i < howManyRows rows → rowGround states rows i ≡ 0)
-    (good-entries : (i : ℕ) → i < length (acceptingStates accepting) → acceptingGround states (acceptingStates accepting) i ≡ 0) where
+    (good-entries : (i : ℕ) → i < howManyEntries accepting → acceptingGround states accepting i ≡ 0) where
   pub sound-good : Good (tableOf states rows accepting)
   sound-good =
       record {
-        symbols = λ i l. rw (rowsOf-at rows i noRow (within i l)) (let r = row i (within i l) .in-range in (r .low, r .high));
-        targets = λ i l. rw (rowsOf-at rows i noRow (within i l)) (row i (within i l) .in-range .target-fits);
+        sound = record {
+          symbols = λ i l. rw (rowsOf-at rows i noRow (within i l)) (let r = row i (within i l) .in-range in (r .low, r .high));
+          targets = λ i l. rw (rowsOf-at rows i noRow (within i l)) (row i (within i l) .in-range .target-fits);
+          args = λ i l. rw (rowsOf-at rows i noRow (within i l)) (row i (within i l) .in-range .args-fit);
+          distinct = λ i j li lj s x. two i j (within i li) (within j lj)
+              (rw (rowsOf-at rows i noRow (within i li), rowsOf-at rows j noRow (within j lj)) at s)
+              (rw (rowsOf-at rows i noRow (within i li), rowsOf-at rows j noRow (within j lj)) at x);
+          listed = entries-listed states accepting good-entries;
+          once = entries-once states accepting good-entries;
+        };
         ordered = λ i l. rw (rowsOf-at rows i noRow (within i l)) (row i (within i l) .ordered);
-        distinct = λ i j li lj s x. two i j (within i li) (within j lj)
-            (rw (rowsOf-at rows i noRow (within i li), rowsOf-at rows j noRow (within j lj)) at s)
-            (rw (rowsOf-at rows i noRow (within i li), rowsOf-at rows j noRow (within j lj)) at x);
-        listed = λ i l. entry-good states accepting i (good-entries i l) .0;
-        once = entries-once states accepting good-entries;
       }
     where
       row : (i : ℕ) → i < howManyRows rows → GoodRow states rows i
@@ -238,7 +261,7 @@ module _ (limit states : ℕ) (rows accepting : List ℕ) (g : NoGround limit st
         few-states = g .few-states;
         few-rows = few (decLe (howManyRows rows) 1024);
         few-args = λ i l. args i (rw (rowsOf-length rows) at l);
-        few-listed = g .few-entries;
+        few-listed = rw (states-length accepting) (g .few-entries);
         small-counts = λ q l. state-good limit (tableOf states rows accepting) q (g .good-states q l) .0;
         small-trees = λ q l. state-good limit (tableOf states rows accepting) q (g .good-states q l) .1;
         small-total = g .small-total;

@@ -23,7 +23,7 @@ use Rattle.model.specs.Number.{checkedThen, acceptedOr, numberOutcome}
 use Rattle.model.specs.Write.{entriesFor, writeOutcome, writeList}
 use Rattle.model.specs.Demand3.{AcceptsList, Refusing, Numbered, HasTree, PairsOff}
 use Rattle.model.proofs.Choice.{if-result}
-use Rattle.model.proofs.Good.{Good, Within}
+use Rattle.model.proofs.Good.{Sound, Good, Within}
 use Rattle.model.proofs.Checked.{NoGround, passes-just, checked-good, checked-within}
 use Rattle.model.proofs.Counting.{count-counts, total-is}
 use Rattle.model.proofs.Reaching.{row-symbol}
@@ -34,7 +34,7 @@ use Rattle.model.proofs.Stuck.{accepted-taken, accepted-result, stuck-p
 use Rattle.model.proofs.Pairing.{exactly-map, number-below, number-same, tree-numbers, all-counted, before-counted}
 
 -- trees that reach states have symbols in range
-pub reach-symbols : {T : Table} {f : Forest} {qs : List ℕ} → Good T → Reach (T .rows) f qs → SymbolsInRange f
+pub reach-symbols : {T : Table} {f : Forest} {qs : List ℕ} → Sound T → Reach (T .rows) f qs → SymbolsInRange f
 unfolding SymbolsInRange
 reach-symbols g none = tt
 reach-symbols g (row i w ks ts) =
@@ -42,16 +42,16 @@ reach-symbols g (row i w ks ts) =
     (p .0, p .1, reach-symbols g ks, reach-symbols g ts)
 
 -- an accepted tree of a table within the limits is well-formed
-pub accepted-well : {T : Table} {t : Tree} → Good T → Accepted T t → WellFormed (serial t)
+pub accepted-well : {T : Table} {t : Tree} → Sound T → Accepted T t → WellFormed (serial t)
 accepted-well {T} {t} g a = record { tree = t; symbols = reach-symbols g (a .reaches); written = refl }
 
 -- and has at most 4,096 entries
 pub accepted-short : {limit : ℕ} {T : Table} {t : Tree} → Good T → Within limit T → Accepted T t → length (serial t) ≤ 4096
 unfolding serial sum
-accepted-short {T} g w a = omega (arith, forest-most T g (a .reaches), w .small-trees (getD (T .accepting) (a .entry) 0) (g .listed (a .entry) (a .listed)))
+accepted-short {T} g w a = omega (arith, forest-most T g (a .reaches), w .small-trees (getD (T .accepting) (a .entry) 0) (g .sound .listed (a .entry) (a .listed)))
 
 -- the same list is the same accepted tree
-pub accepted-same : {T : Table} {t u : Tree} → Good T → Accepted T t → Accepted T u → serial t ≡ serial u → t ≡ u
+pub accepted-same : {T : Table} {t u : Tree} → Sound T → Accepted T t → Accepted T u → serial t ≡ serial u → t ≡ u
 accepted-same {T} {t} {u} g a b e = serial-same t u (reach-symbols g (a .reaches)) (reach-symbols g (b .reaches)) e
 
 -- what follows a check that passes
@@ -77,6 +77,9 @@ module _ (states : ℕ) (rows accepting : List ℕ) (n : ℕ) (passes : Passes s
   pub passing-good : Good (tableOf states rows accepting)
   passing-good = checked-good countLimit states rows accepting none-holds
 
+  pub passing-sound : Sound (tableOf states rows accepting)
+  passing-sound = passing-good .sound
+
   pub passing-within : Within countLimit (tableOf states rows accepting)
   passing-within = checked-within countLimit states rows accepting none-holds
 
@@ -92,16 +95,16 @@ module _ (states : ℕ) (rows accepting : List ℕ) (n : ℕ) (passes : Passes s
   unfolding numberOutcome
   number-answer t a =
       checked-then (checkOutcome states rows accepting) n _ passes
-      ∙ tree-or-taken (serial t) (accepted-well passing-good a) (accepted-short passing-good passing-within a) _
-      ∙ ap (λ (u : Tree). acceptedOr T u (result (numberOf T (count T) u))) (tree-of t (reach-symbols passing-good (a .reaches)))
-      ∙ accepted-taken T passing-good a _
+      ∙ tree-or-taken (serial t) (accepted-well passing-sound a) (accepted-short passing-good passing-within a) _
+      ∙ ap (λ (u : Tree). acceptedOr T u (result (numberOf T (count T) u))) (tree-of t (reach-symbols passing-sound (a .reaches)))
+      ∙ accepted-taken T passing-sound a _
 
   -- only accepted trees have numbers
   pub answer-number : (entries : List ℕ) (m : ℕ) → numberOutcome states rows accepting entries ≡ result m → Answered (tableOf states rows accepting) entries m
   unfolding numberOutcome
   answer-number entries m e =
       let a = tree-or-back entries m _ (sym (checked-then (checkOutcome states rows accepting) n _ passes) ∙ e) in
-      let b = accepted-result T passing-good (treeFrom entries) _ m (a .2) in
+      let b = accepted-result T passing-sound (treeFrom entries) _ m (a .2) in
       record { tree = treeFrom entries; written = tree-serial entries (a .0); accepted = b .0; number = b .1 }
 
   -- the tree of a number below the total, written into a list that is long enough
@@ -142,30 +145,30 @@ module _ (states : ℕ) (rows accepting : List ℕ) (n : ℕ) (passes : Passes s
   accepts-counted : Exactly (AcceptsList T) n
   accepts-counted =
       exactly-map serial noTree (Accepted T) (AcceptsList T) n
-      (λ t u a b e. accepted-same passing-good a b e)
+      (λ t u a b e. accepted-same passing-sound a b e)
       (λ t a. record { tree = t; written = refl; accepted = a })
       (λ entries a. (a .tree, a .accepted, a .written))
-      (subst (Exactly (Accepted T)) (sym passing-total) (all-counted T passing-good (count T) counts))
+      (subst (Exactly (Accepted T)) (sym passing-total) (all-counted T passing-sound (count T) counts (passing-good .ordered)))
 
   accepts-numbered : (entries : List ℕ) (a : AcceptsList T entries) → Numbered states rows accepting n entries (a .tree)
   accepts-numbered entries a =
       record {
         number = numberOf T (count T) (a .tree);
         answer = ap (numberOutcome states rows accepting) (sym (a .written)) ∙ number-answer (a .tree) (a .accepted);
-        small = omega (arith, passing-total, number-below T passing-good (count T) counts (a .accepted));
-        before = before-counted T passing-good (count T) counts (a .accepted);
+        small = omega (arith, passing-total, number-below T passing-sound (count T) counts (a .accepted));
+        before = before-counted T passing-sound (count T) counts (passing-good .ordered) (a .accepted);
       }
 
   numbers-differ : (x y : List ℕ) (m : ℕ) → numberOutcome states rows accepting x ≡ result m → numberOutcome states rows accepting y ≡ result m → x ≡ y
   numbers-differ x y m e f =
       let a = answer-number x m e in
       let b = answer-number y m f in
-      sym (a .written) ∙ ap serial (number-same T passing-good (count T) counts (a .accepted) (b .accepted) (a .number ∙ sym (b .number))) ∙ b .written
+      sym (a .written) ∙ ap serial (number-same T passing-sound (count T) counts (a .accepted) (b .accepted) (a .number ∙ sym (b .number))) ∙ b .written
 
   number-has-tree : (m : ℕ) → m < n → HasTree states rows accepting m
   unfolding entriesFor
   number-has-tree m l =
-      let t = tree-numbers T passing-good (count T) counts m (omega (arith, passing-total)) in
+      let t = tree-numbers T passing-sound (count T) counts (passing-good .ordered) m (omega (arith, passing-total)) in
       record {
         entries = serial (treeOf T (count T) m);
         accepts = record { tree = treeOf T (count T) m; written = refl; accepted = t .accepted };
@@ -195,7 +198,7 @@ module _ (states : ℕ) (rows accepting : List ℕ) (n : ℕ) (passes : Passes s
       → numberOutcome states rows accepting entries ≡ refused number place → (number ≡ 14) × NotAccepted (tableOf states rows accepting) (w .tree) place
   unfolding numberOutcome
   number-refused entries w l number place e =
-      stuck-place T passing-good (w .tree) (w .symbols) (numberOf T (count T) (w .tree)) number place
+      stuck-place T passing-sound (w .tree) (w .symbols) (numberOf T (count T) (w .tree)) number place
       (sym (ap (λ (u : Tree). acceptedOr T u (result (numberOf T (count T) u))) (tree-from entries w))
       ∙ sym (tree-or-taken entries w l _)
       ∙ sym (checked-then (checkOutcome states rows accepting) n _ passes)

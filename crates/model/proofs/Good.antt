@@ -80,14 +80,20 @@ pigeon (suc m) (suc n) f b d = suc-le-suc (pigeon m n moved low single)
 pub once-few : (n : ℕ) (xs : List ℕ) → AllBelow n xs → Once xs → length xs ≤ n
 once-few n xs b d = pigeon (length xs) n (λ i. getD xs i 0) b d
 
--- a good table, whatever its size
-pub record Good (T : Table) : Type 0 where
+-- a sound table, whatever its size and the order of its states: targets and arguments are states, no two rows have the same symbol and the
+-- same arguments, accepting entries are distinct states
+pub record Sound (T : Table) : Type 0 where
   pub symbols : (i : ℕ) → i < length (T .rows) → (1 ≤ getD (T .rows) i noRow .symbol) × (getD (T .rows) i noRow .symbol ≤ 255)
   pub targets : (i : ℕ) → i < length (T .rows) → getD (T .rows) i noRow .target < T .states
-  pub ordered : Ordered (T .rows)
+  pub args : (i : ℕ) → i < length (T .rows) → AllBelow (T .states) (getD (T .rows) i noRow .args)
   pub distinct : Distinct (T .rows)
   pub listed : AllBelow (T .states) (T .accepting)
   pub once : Once (T .accepting)
+
+-- a good table: a sound one in which arguments stand below targets
+pub record Good (T : Table) : Type 0 where
+  pub sound : Sound T
+  pub ordered : Ordered (T .rows)
 
 -- a table within document 01's limits, and with counts and a total up to a limit
 pub record Within (limit : ℕ) (T : Table) : Type 0 where

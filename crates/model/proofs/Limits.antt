@@ -11,7 +11,7 @@ use lib.Dec.{eqb, ltb}
 use borrow.Author.Tests.{ltb-true, ltb-false}
 use Rattle.model.specs.Answers.{Outcome, result, refused}
 use Rattle.model.specs.Choice.{if_then_else_, firstFaulty, anyBelow}
-use Rattle.model.specs.Table.{Table, rowStart, rowNumbered, countAt, howManyRows, rowsOf, acceptingStates, tableOf}
+use Rattle.model.specs.Table.{Table, rowStart, rowNumbered, countAt, howManyRows, rowsOf, howManyEntries, stateAt, tableOf}
 use Rattle.model.specs.Tree.{Tree, serial}
 use Rattle.model.specs.Reach.{Reaches, Accepted}
 use Rattle.model.specs.Count.{sum, Counts, count, total, longest}
@@ -20,7 +20,7 @@ use Rattle.model.specs.Entries.{noTree}
 use Rattle.model.specs.Check.{isState, cut, tooMany, outOfRange, notBelow, repeated, rowGround, acceptingGround, stateGround, checkWithin, checkOutcome, countLimit}
 use Rattle.model.specs.Limits.{ReachedBy, WithinLimits, BeyondLimits, nine, ten, FirstBeyond, TotalBeyond}
 use Rattle.model.proofs.Choice.{refused-number, refused-place, Decided, clear, faulty, decided}
-use Rattle.model.proofs.Good.{Good}
+use Rattle.model.proofs.Good.{Sound, Good}
 use Rattle.model.proofs.Counting.{count-counts, total-is}
 use Rattle.model.proofs.Checked.{sound-good, state-good}
 use Rattle.model.proofs.Longest.{forest-most, longest-none, longest-tree}
@@ -40,7 +40,7 @@ module _ (T : Table) (good : Good T) where
       (λ t u a b e. e)
       (λ t a. there t (a .entry) (a .listed) (a .reaches))
       (λ t r. (t, record { entry = 0; listed = omega arith; reaches = r }, refl))
-      (subst (Exactly (Accepted alone)) (omega arith) (all-counted alone alone-good (count T) (record { state = counts .state })))
+      (subst (Exactly (Accepted alone)) (omega arith) (all-counted alone alone-sound (count T) (record { state = counts .state }) (good .ordered)))
     where
       alone : Table
       alone = record { states = T .states; rows = T .rows; accepting = q ∷ [] }
@@ -49,13 +49,13 @@ module _ (T : Table) (good : Good T) where
       listed zero m = l
       listed (suc i) m = absurd (omega arith)
 
-      alone-good : Good alone
-      alone-good =
+      alone-sound : Sound alone
+      alone-sound =
           record {
-            symbols = good .symbols;
-            targets = good .targets;
-            ordered = good .ordered;
-            distinct = good .distinct;
+            symbols = good .sound .symbols;
+            targets = good .sound .targets;
+            args = good .sound .args;
+            distinct = good .sound .distinct;
             listed = listed;
             once = λ i j li lj e. omega (arith, li, lj);
           }
@@ -119,7 +119,7 @@ row-number states rows i =
 
 entry-number : (states : ℕ) (accepting : List ℕ) (i : ℕ) → acceptingGround states accepting i ≤ 7
 unfolding acceptingGround
-entry-number states accepting i = go (not (isState states (getD accepting i 0)) || anyBelow i (λ j. eqb (getD accepting j 0) (getD accepting i 0)))
+entry-number states accepting i = go (not (isState states (stateAt accepting i)) || anyBelow i (λ j. eqb (stateAt accepting j) (stateAt accepting i)))
   where
     go : (a : Bool) → (if a then 7 else 0) ≤ 7
     go true = omega arith
@@ -136,8 +136,8 @@ module _ (states : ℕ) (rows accepting : List ℕ) where
   told k q h e =
       let a = if-other (ltb 256 states) 1 0 k q _ (λ z. omega arith) e in
       let b = first-other (howManyRows rows) k q (rowGround states rows) _ (λ i z. omega (arith, row-number states rows i)) a in
-      let c = first-other (length (acceptingStates accepting)) k q (acceptingGround states (acceptingStates accepting)) _ (λ i z. omega (arith, entry-number states accepting i)) (b .1) in
-      let d = if-other (ltb states (length (acceptingStates accepting))) 8 0 k q _ (λ z. omega arith) (c .1) in
+      let c = first-other (howManyEntries accepting) k q (acceptingGround states accepting) _ (λ i z. omega (arith, entry-number states accepting i)) (b .1) in
+      let d = if-other (ltb states (howManyEntries accepting)) 8 0 k q _ (λ z. omega arith) (c .1) in
       (sound-good states rows accepting (b .0) (c .0), d)
 
   -- 9 and 10, of the first faulty state
@@ -182,6 +182,6 @@ module _ (states : ℕ) (rows accepting : List ℕ) where
             zero-place = l .1;
             states = λ q k. within-limits T good q k (p .0 q k);
             many = total T;
-            accepted = subst (Exactly (Accepted T)) (sym (total-is T)) (all-counted T good (count T) (count-counts T (good .ordered)));
+            accepted = subst (Exactly (Accepted T)) (sym (total-is T)) (all-counted T (good .sound) (count T) (count-counts T (good .ordered)) (good .ordered));
             beyond = ltb-true countLimit (total T) (l .0);
           }

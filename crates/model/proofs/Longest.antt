@@ -11,7 +11,7 @@ use Rattle.model.specs.Table.{Row, Table, IsRow, noRow}
 use Rattle.model.specs.Tree.{Forest, Tree, empty, node, serialForest, serial}
 use Rattle.model.specs.Reach.{Reach, none, row, Reaches}
 use Rattle.model.specs.Count.{sum, product, rowCounts, weight, stateCounts, Counts, count, largest, rowLongest, stateLongest, longest, LongestTree}
-use Rattle.model.proofs.Good.{AllBelow, below-first, below-rest, Good}
+use Rattle.model.proofs.Good.{AllBelow, below-first, below-rest, Sound, Good}
 use Rattle.model.proofs.Counting.{sum-pos, factors-pos, largest-entry, largest-at, weight-pos, row-counts-le, rowLongest-at, rowLongest-pos, count-counts, longest-eqn, longest-beyond}
 use Rattle.model.proofs.Reaching.{row-target, row-there}
 
@@ -27,9 +27,9 @@ pub serial-length : (t : Tree) → length (serial t) ≡ 2 + length (serialFores
 unfolding serial serialForest
 serial-length t = omega (arith, length-append (serialForest (t .children)) (0 ∷ []))
 
-module _ (T : Table) (good : Good T) where
+module _ (T : Table) (sound : Sound T) where
   pub row-fits : {i s q : ℕ} {xs : List ℕ} → IsRow (T .rows) i s q xs → q < T .states
-  row-fits {i} w = rw (row-target w) at (good .targets i (w .inside))
+  row-fits {i} w = rw (row-target w) at (sound .targets i (w .inside))
 
   -- ---- counts above 0
 
@@ -59,8 +59,9 @@ module _ (T : Table) (good : Good T) where
       let w = weight-pos c (T .rows) q 0 (p .0) m (p .2) in
       (p .0, m, w .0, w .1)
 
-  -- ---- longest trees
+-- ---- longest trees, where arguments stand below targets
 
+module _ (T : Table) (good : Good T) where
   eqn : (q : ℕ) → q < T .states → longest T q ≡ largest (map (rowLongest (count T) (longest T) q) (T .rows))
   unfolding stateLongest
   eqn q l = longest-eqn T (good .ordered) q l
@@ -70,7 +71,7 @@ module _ (T : Table) (good : Good T) where
 
   pub longest-pos : (q : ℕ) → q < T .states → 0 < count T q → 0 < longest T q
   longest-pos q l h =
-      let p = counting-row (count T) counts q l h in
+      let p = counting-row T (good .sound) (count T) counts q l h in
       omega (
         arith,
         eqn q l,
@@ -112,9 +113,9 @@ module _ (T : Table) (good : Good T) where
         forest-length s k f,
         forest-most ks,
         forest-most ts,
-        eqn q (row-fits w),
+        eqn q (row-fits T (good .sound) w),
         largest-entry (map (rowLongest (count T) (longest T) q) (T .rows)) i,
-        rowLongest-at (count T) (longest T) w (reached-pos (count T) counts ks),
+        rowLongest-at (count T) (longest T) w (reached-pos T (good .sound) (count T) counts ks),
       )
 
   -- trees, one for each of some states, each as long as its state's longest

@@ -9,13 +9,13 @@ use lib.ListN.{length, getD}
 use lib.Dec.{eqb, ltb, leb}
 use borrow.Author.Tests.{lt-ltb, le-ltb, lt-leb, ne-eqb}
 use Rattle.model.specs.Answers.{result}
-use Rattle.model.specs.Table.{Row, Table, noRow, pack, countAt, rowStart, rowNumbered, howManyRows, rowsOf, rowIs, tableOf, Whole}
+use Rattle.model.specs.Table.{Row, Table, noRow, pack, countAt, rowStart, rowNumbered, howManyRows, rowsOf, rowIs, howManyEntries, stateAt, tableOf, Whole}
 use Rattle.model.specs.Count.{count, total, longest}
 use Rattle.model.specs.Check.{allBelow, cut, tooMany, outOfRange, notBelow, repeated, rowGround, acceptingGround, stateGround, checkWithin}
 use Rattle.model.proofs.Choice.{or-none, and-both, is-false, any-none}
 use Rattle.model.proofs.Good.{AllBelow, below-first, below-rest, Good, Within}
 use Rattle.model.proofs.Rows.{args-length, rowsOf-length, rowsOf-at, rowsOf-pack, pack-whole, rowIs-true}
-use Rattle.model.proofs.Checked.{NoGround, passes, passed, checked-good, checked-within, checked-packed, InRange, GoodRow}
+use Rattle.model.proofs.Checked.{NoGround, passes, passed, checked-good, checked-within, checked-packed, InRange, GoodRow, GoodEntry, states-length, states-at}
 
 -- ---- the tests do not hold
 
@@ -67,13 +67,12 @@ row-ground states rows i g =
       repeated-no rows i (g .fresh),
     )
 
-pub entry-ground : (states : ℕ) (accepting : List ℕ) (i : ℕ) → getD accepting i 0 < states
-    → ((j : ℕ) → j < i → getD accepting j 0 ≡ getD accepting i 0 → ⊥) → acceptingGround states accepting i ≡ 0
+pub entry-ground : (states : ℕ) (accepting : List ℕ) (i : ℕ) → GoodEntry states accepting i → acceptingGround states accepting i ≡ 0
 unfolding acceptingGround
-entry-ground states accepting i l h =
+entry-ground states accepting i g =
     rw (
-      lt-ltb (getD accepting i 0) states l,
-      any-none i (λ j. eqb (getD accepting j 0) (getD accepting i 0)) (λ j m. ne-eqb (getD accepting j 0) (getD accepting i 0) (h j m)),
+      lt-ltb (stateAt accepting i) states (g .state),
+      any-none i (λ j. eqb (stateAt accepting j) (stateAt accepting i)) (λ j m. ne-eqb (stateAt accepting j) (stateAt accepting i) (g .fresh j m)),
     )
 
 pub state-ground : (limit : ℕ) (T : Table) (q : ℕ) → count T q ≤ limit → longest T q ≤ 4096 → stateGround limit T q ≡ 0
@@ -96,10 +95,10 @@ module _ (limit states : ℕ) (rows accepting : List ℕ) where
         number = omega (arith, f .within .few-rows, rowsOf-length rows);
         few-args = omega (arith, args-length rows (rowStart rows i) whole, rw is at (f .within .few-args i l′));
         in-range = record {
-          low = rw is at (f .good .symbols i l′ .0);
-          high = rw is at (f .good .symbols i l′ .1);
-          target-fits = rw is at (f .good .targets i l′);
-          args-fit = λ k m. omega (arith, ordered k m, rw is at (f .good .targets i l′));
+          low = rw is at (f .good .sound .symbols i l′ .0);
+          high = rw is at (f .good .sound .symbols i l′ .1);
+          target-fits = rw is at (f .good .sound .targets i l′);
+          args-fit = rw is at (f .good .sound .args i l′);
         };
         ordered = ordered;
         fresh = λ j m s x. fresh j m (j-is j m) s x;
@@ -123,17 +122,25 @@ module _ (limit states : ℕ) (rows accepting : List ℕ) where
       fresh : (j : ℕ) → j < i → getD (rowsOf rows) j noRow ≡ rowNumbered rows j → rowNumbered rows j .symbol ≡ rowNumbered rows i .symbol
           → rowNumbered rows j .args ≡ rowNumbered rows i .args → ⊥
       fresh j m e s x =
-          let k : j ≡ i = f .good .distinct j i (omega (arith, rowsOf-length rows)) l′ (rw (e, is) s) (rw (e, is) x) in
+          let k : j ≡ i = f .good .sound .distinct j i (omega (arith, rowsOf-length rows)) l′ (rw (e, is) s) (rw (e, is) x) in
           omega arith
+
+  fine-entry : Fine limit states rows accepting → (i : ℕ) → i < howManyEntries accepting → GoodEntry states accepting i
+  fine-entry f i l =
+      record {
+        state = rw (states-at accepting i) at (f .good .sound .listed i (rw (states-length accepting) l));
+        fresh = λ j m e.
+            let k : j ≡ i = f .good .sound .once j i (omega (arith, states-length accepting)) (rw (states-length accepting) l) (states-at accepting j ∙ e ∙ sym (states-at accepting i)) in
+            omega arith;
+      }
 
   pub fine-clear : Fine limit states rows accepting → NoGround limit states rows accepting
   fine-clear f =
       record {
         few-states = f .within .few-states;
         good-rows = λ i l. row-ground states rows i (fine-row f i l);
-        good-entries = λ i l. entry-ground states accepting i (f .good .listed i l)
-            (λ j m e. let k : j ≡ i = f .good .once j i (omega arith) l e in omega arith);
-        few-entries = f .within .few-listed;
+        good-entries = λ i l. entry-ground states accepting i (fine-entry f i l);
+        few-entries = rw (states-length accepting) at (f .within .few-listed);
         good-states = λ q l. state-ground limit (tableOf states rows accepting) q (f .within .small-counts q l) (f .within .small-trees q l);
         small-total = f .within .small-total;
       }

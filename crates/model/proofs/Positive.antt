@@ -8,7 +8,7 @@ use lib.ListN.{length}
 use lib.Dec.{eqb, ltb}
 use Rattle.model.specs.Answers.{Outcome, result, refused}
 use Rattle.model.specs.Choice.{if_then_else_, firstFaulty}
-use Rattle.model.specs.Table.{Table, tableOf, howManyRows, acceptingStates}
+use Rattle.model.specs.Table.{Table, tableOf, howManyRows, howManyEntries}
 use Rattle.model.specs.Tree.{Forest, empty, node, only, serialForest, serial}
 use Rattle.model.specs.Reach.{stateOf, entryOf}
 use Rattle.model.specs.Value.{numberOf}
@@ -53,8 +53,8 @@ check-positive states rows accepting =
     let T = tableOf states rows accepting in
     positive-if (ltb 256 states) 1 0 _ (omega arith)
     (positive-first (howManyRows rows) (rowGround states rows) _
-    (positive-first (length (acceptingStates accepting)) (acceptingGround states (acceptingStates accepting)) _
-    (positive-if (ltb states (length (acceptingStates accepting))) 8 0 _ (omega arith)
+    (positive-first (howManyEntries accepting) (acceptingGround states accepting) _
+    (positive-if (ltb states (howManyEntries accepting)) 8 0 _ (omega arith)
     (positive-first states (stateGround countLimit T) _
     (positive-if (ltb countLimit (total T)) 11 0 _ (omega arith) (positive-result (total T)))))))
 

@@ -1,4 +1,4 @@
--- For a good table the functions for rows and states say what reaching and accepting say.
+-- For a sound table the functions for rows and states say what reaching and accepting say.
 use Prim.Native.Nat.{ℕ, zero, suc, _≤_, _<_, suc-le-suc}
 use mathlib.Core.Path.{_≡_, refl, ap, sym, _∙_, subst}
 use mathlib.Core.Bool.{Bool, true, false}
@@ -16,7 +16,7 @@ use Rattle.model.specs.Tree.{Forest, Tree, empty, node, only}
 use Rattle.model.specs.Reach.{Reach, none, row, Reaches, Accepted, rowWith, targetOf, statesOf, stateOf, entryOf}
 use Rattle.model.proofs.Choice.{not-both}
 use Rattle.model.proofs.Counting.{getD-any}
-use Rattle.model.proofs.Good.{AllBelow, below-first, below-rest, below-cons, below-none, Distinct, Good}
+use Rattle.model.proofs.Good.{AllBelow, below-first, below-rest, below-cons, below-none, Distinct, Sound}
 use Rattle.model.proofs.Reaching.{row-symbol, row-target, row-args, same-row}
 use Rattle.model.proofs.Rows.{rowIs-yes, rowIs-true}
 
@@ -84,19 +84,17 @@ target-inside T i l = go (decLe (length (T .rows)) i)
     go (no h) = lt-of-not-le h
 
 -- the arguments of a row are states
-pub args-states : {T : Table} {i s q : ℕ} {xs : List ℕ} → Good T → IsRow (T .rows) i s q xs → AllBelow (T .states) xs
-args-states {T} {i} {xs} g w j l =
-    let b = rw (row-args w) at (g .ordered i (w .inside)) in
-    omega (arith, b j l, g .targets i (w .inside))
+pub args-states : {T : Table} {i s q : ℕ} {xs : List ℕ} → Sound T → IsRow (T .rows) i s q xs → AllBelow (T .states) xs
+args-states {i} g w = rw (row-args w) at (g .args i (w .inside))
 
 -- what a forest reaches is what the function gives
-pub states-reach : {T : Table} {f : Forest} {qs : List ℕ} → Good T → Reach (T .rows) f qs → statesOf T f ≡ qs
+pub states-reach : {T : Table} {f : Forest} {qs : List ℕ} → Sound T → Reach (T .rows) f qs → statesOf T f ≡ qs
 unfolding statesOf
 states-reach g none = refl
 states-reach {T} g (row i w ks ts) = rw (states-reach g ks, rowWith-is (g .distinct) w, target-is T w, states-reach g ts)
 
 -- where the function gives states, the forest reaches them
-pub reach-states : {T : Table} → Good T → (f : Forest) → AllBelow (T .states) (statesOf T f) → Reach (T .rows) f (statesOf T f)
+pub reach-states : {T : Table} → Sound T → (f : Forest) → AllBelow (T .states) (statesOf T f) → Reach (T .rows) f (statesOf T f)
 unfolding statesOf
 reach-states g empty b = none
 reach-states {T} g (node s children right) b =
@@ -107,11 +105,11 @@ reach-states {T} g (node s children right) b =
     row i w (reach-states g children (args-states g w)) (reach-states g right (below-rest (T .states) (targetOf T i) (statesOf T right) b))
 
 -- the same of one tree
-pub state-reaches : {T : Table} {t : Tree} {q : ℕ} → Good T → Reaches (T .rows) t q → stateOf T t ≡ q
+pub state-reaches : {T : Table} {t : Tree} {q : ℕ} → Sound T → Reaches (T .rows) t q → stateOf T t ≡ q
 unfolding statesOf
 state-reaches g r = ap (λ (qs : List ℕ). getD qs 0 0) (states-reach g r)
 
-pub reaches-state : {T : Table} → Good T → (t : Tree) → stateOf T t < T .states → Reaches (T .rows) t (stateOf T t)
+pub reaches-state : {T : Table} → Sound T → (t : Tree) → stateOf T t < T .states → Reaches (T .rows) t (stateOf T t)
 unfolding statesOf
 reaches-state {T} g t l = reach-states g (only t) (below-cons (T .states) (stateOf T t) [] l (below-none (T .states)))
 
@@ -141,7 +139,7 @@ entryOf-first (x ∷ xs) q i e = go (eqb x q) (eqb-false x q) (entryOf-first xs 
     go false h ih (suc i) e = suc-le-suc (ih i e)
 
 -- a tree is accepted just where its state is listed
-pub accepted-exactly : {T : Table} → Good T → (t : Tree) → Accepted T t ↔ (entryOf (T .accepting) (stateOf T t) < length (T .accepting))
+pub accepted-exactly : {T : Table} → Sound T → (t : Tree) → Accepted T t ↔ (entryOf (T .accepting) (stateOf T t) < length (T .accepting))
 accepted-exactly {T} g t = (there, back)
   where
     there : Accepted T t → entryOf (T .accepting) (stateOf T t) < length (T .accepting)

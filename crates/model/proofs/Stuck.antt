@@ -19,13 +19,13 @@ use Rattle.model.specs.Reach.{Reach, none, row, Reaches, Accepted, targe
 use Rattle.model.specs.Number.{reachesNone, stuckOr, acceptedOr}
 use Rattle.model.specs.Place.{Closes, BarsClose, ReachesSome, NotAccepted, stuck, unlisted}
 use Rattle.model.proofs.Choice.{if-yes, if-no, if-result, else-result, refused-number, refused-place, not-both}
-use Rattle.model.proofs.Good.{AllBelow, below-none, below-cons, Good}
+use Rattle.model.proofs.Good.{AllBelow, below-none, below-cons, Sound}
 use Rattle.model.proofs.Longest.{forest-length, serial-length, row-fits}
 use Rattle.model.proofs.Serial.{serial-same}
 use Rattle.model.proofs.Values.{Three, lt, eq, gt, three}
 use Rattle.model.proofs.States.{reach-states, state-reaches, reaches-state, entryOf-first, accepted-exactly}
 
-module _ (T : Table) (good : Good T) where
+module _ (T : Table) (sound : Sound T) where
   -- ---- one node
 
   -- a tree whose bar does not refuse has a state
@@ -37,11 +37,11 @@ module _ (T : Table) (good : Good T) where
   pub some-reaches : {t : Tree} {q : ℕ} → Reaches (T .rows) t q → reachesNone T (t .symbol) (t .children) ≡ false
   unfolding reachesNone
   some-reaches {t} {q} r =
-      let l : stateOf T t < T .states = rw (state-reaches good r) (reaches-fits r) in
+      let l : stateOf T t < T .states = rw (state-reaches sound r) (reaches-fits r) in
       rw (lt-ltb (stateOf T t) (T .states) l)
     where
       reaches-fits : {t : Tree} {q : ℕ} → Reaches (T .rows) t q → q < T .states
-      reaches-fits (row i w ks none) = row-fits T good w
+      reaches-fits (row i w ks none) = row-fits T sound w
 
   -- the tree with this symbol and these children reaches no state
   pub reaches-none : (t : Tree) → (reachesNone T (t .symbol) (t .children) ≡ true) ↔ ((q : ℕ) → Reaches (T .rows) t q → ⊥)
@@ -55,7 +55,7 @@ module _ (T : Table) (good : Good T) where
         where
           go : (b : Bool) → reachesNone T (t .symbol) (t .children) ≡ b → b ≡ true
           go true e = refl
-          go false e = absurd (h (stateOf T t) (reaches-state good t (reaches-some (t .symbol) (t .children) e)))
+          go false e = absurd (h (stateOf T t) (reaches-state sound t (reaches-some (t .symbol) (t .children) e)))
 
   -- ---- trees side by side
 
@@ -79,7 +79,7 @@ module _ (T : Table) (good : Good T) where
 
   -- a result: they reach states
   pub stuck-back : (f : Forest) (p m : ℕ) (o : Outcome) → stuckOr T f p o ≡ result m → Reach (T .rows) f (statesOf T f) × (o ≡ result m)
-  stuck-back f p m o e = let h = states-below f p m o e in (reach-states good f (h .0), h .1)
+  stuck-back f p m o e = let h = states-below f p m o e in (reach-states sound f (h .0), h .1)
 
   -- ---- a tree
 
@@ -89,7 +89,7 @@ module _ (T : Table) (good : Good T) where
   accepted-taken {t} a o =
       stuck-taken (a .reaches) 0 _
       ∙ if-yes (ltb (entryOf (T .accepting) (stateOf T t)) (length (T .accepting))) o (refused 14 (length (serial t) - 1))
-      (lt-ltb (entryOf (T .accepting) (stateOf T t)) (length (T .accepting)) (accepted-exactly good t .0 a))
+      (lt-ltb (entryOf (T .accepting) (stateOf T t)) (length (T .accepting)) (accepted-exactly sound t .0 a))
 
   -- a tree that is taken is accepted
   pub accepted-back : (t : Tree) (m : ℕ) (o : Outcome) → acceptedOr T t o ≡ result m → Accepted T t × (o ≡ result m)
@@ -97,7 +97,7 @@ module _ (T : Table) (good : Good T) where
   accepted-back t m o e =
       let entry = entryOf (T .accepting) (stateOf T t) in
       let b = else-result (ltb entry (length (T .accepting))) 14 (length (serial t) - 1) m o (stuck-back (only t) 0 m _ e .1) in
-      (accepted-exactly good t .1 (ltb-true entry (length (T .accepting)) (b .0)), b .1)
+      (accepted-exactly sound t .1 (ltb-true entry (length (T .accepting)) (b .0)), b .1)
 
   -- and the result is what follows
   pub accepted-result : (t : Tree) (k m : ℕ) → acceptedOr T t (result k) ≡ result m → Accepted T t × (k ≡ m)
@@ -276,7 +276,7 @@ data Walked (T : Table) (f : Forest) (place : ℕ) (o answer : Outcome) : Type 0
   halts : (i : ℕ) (u : Tree) → Closes (serialForest f) i u → ((q : ℕ) → Reaches (T .rows) u q → ⊥) → BarsClose (ReachesSome T) (serialForest f) i
       → answer ≡ refused 14 (place + i) → Walked T f place o answer
 
-module _ (T : Table) (good : Good T) where
+module _ (T : Table) (sound : Sound T) where
   walked-right : (s : ℕ) (k r : Forest) (place : ℕ) (o x : Outcome) → SymbolsInRange (node s k r)
       → BarsClose (ReachesSome T) (serialForest k) (length (serialForest k)) → ReachesSome T (record { symbol = s; children = k })
       → Walked T r (suc (suc place + length (serialForest k))) o x → Walked T (node s k r) place o x
@@ -292,12 +292,12 @@ module _ (T : Table) (good : Good T) where
       → (b : Bool) → reachesNone T s k ≡ b → Walked T (node s k r) place o (if b then refused 14 (suc place + length (serialForest k)) else x)
   walked-own s k r place o x h d w true e =
       let z : suc place + length (serialForest k) ≡ place + suc (length (serialForest k)) = omega arith in
-      let n = reaches-none T good (record { symbol = s; children = k }) .0 e in
+      let n = reaches-none T sound (record { symbol = s; children = k }) .0 e in
       halts (suc (length (serialForest k))) (record { symbol = s; children = k }) (closes-first s k r h) n
       (bars-children (ReachesSome T) s k r h (length (serialForest k)) (omega arith) d) (ap (refused 14) z)
   walked-own s k r place o x h d w false e =
       let t : Tree = record { symbol = s; children = k } in
-      walked-right s k r place o x h d (stateOf T t, reaches-state good t (reaches-some T good s k e)) w
+      walked-right s k r place o x h d (stateOf T t, reaches-state sound t (reaches-some T sound s k e)) w
 
   -- the children first
   walked-node : (s : ℕ) (k r : Forest) (place : ℕ) (o x y : Outcome) → SymbolsInRange (node s k r)
@@ -328,7 +328,7 @@ module _ (T : Table) (good : Good T) where
       listed-nowhere y d p r =
           unlisted d (r .0) (r .1)
           (λ i l f.
-          omega (arith, l, ltb-false entry (length (T .accepting)) y, entryOf-first (T .accepting) (stateOf T t) i (f ∙ sym (state-reaches good (r .1)))))
+          omega (arith, l, ltb-false entry (length (T .accepting)) y, entryOf-first (T .accepting) (stateOf T t) i (f ∙ sym (state-reaches sound (r .1)))))
           p
 
       last : (b : Bool) → ltb entry (length (T .accepting)) ≡ b → BarsClose (ReachesSome T) (serial t) (length (serial t))

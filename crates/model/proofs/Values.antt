@@ -18,7 +18,7 @@ use Rattle.model.specs.Count.{sum, product, rowCounts, weight, stateCoun
 use Rattle.model.specs.Value.{horner, earlierRows, rowValue, valuesOf, valueOf, Picked, findBy, childrenFrom, treeIn}
 use Rattle.model.specs.Order.{Earlier}
 use Rattle.model.specs.Order.Earlier.{row as by-row, child as by-child, next as by-next}
-use Rattle.model.proofs.Good.{AllBelow, below-first, below-rest, below-none, Ordered, Good}
+use Rattle.model.proofs.Good.{AllBelow, below-first, below-rest, below-none, Ordered, Sound}
 use Rattle.model.proofs.Counting.{sum-place, factors-pos, weight-at, weight-pos}
 use Rattle.model.proofs.Reaching.{row-symbol, row-args, row-there}
 use Rattle.model.proofs.States.{rowWith-is, target-is, states-reach}
@@ -234,10 +234,10 @@ pub record ValuedForest (T : Table) (c : ℕ → ℕ) (f : Forest) (qs : List �
   pub reach : Reach (T .rows) f qs
   pub value : horner c 0 qs (valuesOf T c f) ≡ h
 
-module _ (T : Table) (good : Good T) where
+module _ (T : Table) (sound : Sound T) where
   -- a tree's row
   pub row-of : {i s q : ℕ} {k : Forest} {xs : List ℕ} → IsRow (T .rows) i s q xs → Reach (T .rows) k xs → rowOf T s k ≡ i
-  row-of {s} w ks = ap (rowWith (T .rows) s) (states-reach good ks) ∙ rowWith-is (good .distinct) w
+  row-of {s} w ks = ap (rowWith (T .rows) s) (states-reach sound ks) ∙ rowWith-is (sound .distinct) w
 
   same-args : {i j s q s′ q′ : ℕ} {xs xs′ : List ℕ} → IsRow (T .rows) i s q xs → IsRow (T .rows) j s′ q′ xs′ → i ≡ j → xs ≡ xs′
   same-args w w′ e = sym (row-args w) ∙ ap (λ (i : ℕ). getD (T .rows) i noRow .args) e ∙ row-args w′
@@ -282,7 +282,7 @@ module _ (T : Table) (good : Good T) where
     -- a row's trees fit into its target's count
     pub row-below : {i s q : ℕ} {xs : List ℕ} (h : ℕ) → IsRow (T .rows) i s q xs → h < product (map c xs) → h + earlierRows (T .rows) c q i < c q
     unfolding stateCounts earlierRows
-    row-below {i} {q} h w l = omega (arith, counts .state q (row-fits T good w), sum-place (map (weight c q) (T .rows)) i, weight-at c w)
+    row-below {i} {q} h w l = omega (arith, counts .state q (row-fits T sound w), sum-place (map (weight c q) (T .rows)) i, weight-at c w)
 
     -- values are below the counts of the states
     pub values-below : {f : Forest} {qs : List ℕ} → Reach (T .rows) f qs → ValuesBelow c qs (valuesOf T c f)
@@ -340,31 +340,6 @@ module _ (T : Table) (good : Good T) where
         let w = weight-pos c (T .rows) q (findBy (map (weight c q) (T .rows)) h .rest) (findBy (map (weight c q) (T .rows)) h .which) i (f .less) in
         record { inside = i; target = w .0; less = w .1; is = f .is }
 
-    row-valued : (below : ℕ → ℕ → Tree) (q h : ℕ) (p : Picked) → ((a h : ℕ) → a < q → h < c a → Valued T c (below a h) a h) → Entered T c q h p
-        → Valued T c
-        (record {
-          symbol = getD (T .rows) (p .which) noRow .symbol;
-          children = childrenFrom c below (getD (T .rows) (p .which) noRow .args) (rowCounts c (getD (T .rows) (p .which) noRow)) (p .rest);
-        }) q h
-    row-valued below q h p ih n =
-        let r = getD (T .rows) (p .which) noRow in
-        let w = row-there (T .rows) (p .which) q (n .inside) (n .target) in
-        let k = children-valued below q ih (r .args) (rw (n .target) at (good .ordered (p .which) (n .inside))) (rowCounts c r) (p .rest) refl (n .less) in
-        record {
-          reaches = row (p .which) w (k .reach) none;
-          value = ap (λ (vs : List ℕ). getD vs 0 0) (values-row empty w (k .reach)) ∙ omega (arith, k .value, n .is);
-        }
-
-    -- the tree of a value below the count of its state
-    pub tree-valued : (d q h : ℕ) → q < d → q < T .states → h < c q → Valued T c (treeIn (T .rows) c d q h) q h
-    unfolding treeIn
-    tree-valued zero q h l fits less = absurd (not-suc-le-zero l)
-    tree-valued (suc d) q h l fits less =
-        row-valued (treeIn (T .rows) c d) q h (findBy (map (weight c q) (T .rows)) h)
-        (λ a v la lv. tree-valued d a v (omega arith) (omega arith) lv) (entered q h fits less)
-
-    -- ---- one tree
-
     -- a tree's value is below its state's count
     pub value-below : {t : Tree} {q : ℕ} → Reaches (T .rows) t q → valueOf T c t < c q
     unfolding valuesOf
@@ -377,3 +352,29 @@ module _ (T : Table) (good : Good T) where
     pub value-rises : {t u : Tree} {q : ℕ} → Earlier T (only t) (only u) → Reaches (T .rows) t q → Reaches (T .rows) u q → valueOf T c t < valueOf T c u
     unfolding valuesOf horner
     value-rises l r r′ = omega (arith, values-rise l r r′)
+
+    -- ---- where arguments stand below targets
+
+    module _ (ordered : Ordered (T .rows)) where
+      row-valued : (below : ℕ → ℕ → Tree) (q h : ℕ) (p : Picked) → ((a h : ℕ) → a < q → h < c a → Valued T c (below a h) a h) → Entered T c q h p
+          → Valued T c
+          (record {
+            symbol = getD (T .rows) (p .which) noRow .symbol;
+            children = childrenFrom c below (getD (T .rows) (p .which) noRow .args) (rowCounts c (getD (T .rows) (p .which) noRow)) (p .rest);
+          }) q h
+      row-valued below q h p ih n =
+          let r = getD (T .rows) (p .which) noRow in
+          let w = row-there (T .rows) (p .which) q (n .inside) (n .target) in
+          let k = children-valued below q ih (r .args) (rw (n .target) at (ordered (p .which) (n .inside))) (rowCounts c r) (p .rest) refl (n .less) in
+          record {
+            reaches = row (p .which) w (k .reach) none;
+            value = ap (λ (vs : List ℕ). getD vs 0 0) (values-row empty w (k .reach)) ∙ omega (arith, k .value, n .is);
+          }
+
+      -- the tree of a value below the count of its state
+      pub tree-valued : (d q h : ℕ) → q < d → q < T .states → h < c q → Valued T c (treeIn (T .rows) c d q h) q h
+      unfolding treeIn
+      tree-valued zero q h l fits less = absurd (not-suc-le-zero l)
+      tree-valued (suc d) q h l fits less =
+          row-valued (treeIn (T .rows) c d) q h (findBy (map (weight c q) (T .rows)) h)
+          (λ a v la lv. tree-valued d a v (omega arith) (omega arith) lv) (entered q h fits less)

@@ -3,11 +3,11 @@ use Prim.Native.Nat.{ℕ, _-_}
 use mathlib.Core.Path.{_≡_}
 use mathlib.Core.Bool.{Bool, true, _&&_, _||_, not}
 use mathlib.Core.List.{List, [], _∷_}
-use lib.ListN.{length, getD}
+use lib.ListN.{length}
 use lib.Dec.{eqb, ltb, leb}
 use Rattle.model.specs.Answers.{Outcome, result, refused}
 use Rattle.model.specs.Choice.{if_then_else_, firstFaulty, anyBelow}
-use Rattle.model.specs.Table.{Row, Table, rowStart, howManyRows, rowNumbered, countAt, rowIs, acceptingStates, tableOf}
+use Rattle.model.specs.Table.{Row, Table, rowStart, howManyRows, rowNumbered, countAt, rowIs, howManyEntries, stateAt, tableOf}
 use Rattle.model.specs.Count.{count, total, longest}
 
 -- every one of the numbers is below n
@@ -51,7 +51,7 @@ rowGround states rows i =
 -- "the first entry that is no state or equals an earlier entry is 7, with its place"
 unfoldable pub acceptingGround : (states : ℕ) (accepting : List ℕ) → ℕ → ℕ
 acceptingGround states accepting i =
-    if not (isState states (getD accepting i 0)) || anyBelow i (λ j. eqb (getD accepting j 0) (getD accepting i 0)) then 7 else 0
+    if not (isState states (stateAt accepting i)) || anyBelow i (λ j. eqb (stateAt accepting j) (stateAt accepting i)) then 7 else 0
 
 -- "for each, a count above 4,294,967,295 is 9, and after that a longest tree above 4,096 entries is 10"
 unfoldable pub stateGround : (limit : ℕ) → Table → ℕ → ℕ
@@ -68,9 +68,9 @@ checkWithin limit states rows accepting =
     -- "Then rows are taken in turn, and the first faulty row decides; its row number is the place."
     firstFaulty (howManyRows rows) (rowGround states rows)
     -- "Then the accepting list"
-    (firstFaulty (length (acceptingStates accepting)) (acceptingGround states (acceptingStates accepting))
+    (firstFaulty (howManyEntries accepting) (acceptingGround states accepting)
     -- "a list longer than the count of states is 8" (after 7 none is: the law `entries-few`)
-    (if ltb states (length (acceptingStates accepting)) then refused 8 0 else
+    (if ltb states (howManyEntries accepting) then refused 8 0 else
     -- "Then states are taken in turn from 0, the first faulty state decides, and its number is the place"
     firstFaulty states (stateGround limit T)
     -- "Last, a total above 4,294,967,295 is 11."

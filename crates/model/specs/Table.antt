@@ -64,8 +64,14 @@ firstRows entries (suc n) = firstRows entries n ++ (rowNumbered entries n ∷ []
 unfoldable pub rowsOf : List ℕ → List Row
 rowsOf entries = firstRows entries (howManyRows entries)
 
--- "The accepting list: distinct states, in the order that matters for numbers." The states that its entries name: the one place where
--- accepting entries are read
+-- "The accepting list: distinct states, in the order that matters for numbers." A lent accepting list is read by the next three alone: how
+-- many entries it has, the state that entry i names, and all these states in order (the laws `states-length` and `states-at`)
+abbrev pub howManyEntries : List ℕ → ℕ
+howManyEntries accepting = length accepting
+
+abbrev pub stateAt : List ℕ → ℕ → ℕ
+stateAt accepting i = getD accepting i 0
+
 abbrev pub acceptingStates : List ℕ → List ℕ
 acceptingStates accepting = accepting
 

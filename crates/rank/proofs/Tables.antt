@@ -82,23 +82,23 @@ module _ (accepting : List ℕ) {states : ℕ} {rows offsets heads next first af
   row-is k l = record { inside = rw (rowsOf-length rows, ← (p .all)) l; is = rowsOf-at rows k noRow (rw (← (p .all)) l) }
 
   earlier : (k : ℕ) → k < n → getD sums k 0 ≡ earlierRows (rowsOf rows) (count T) (target rows k) k
-  earlier k l = p .known .earlier k (rw (← (p .all)) l) (row-fits T good (row-is k l)) ∙ earlier-same states rows accepting (target rows k) k
+  earlier k l = p .known .earlier k (rw (← (p .all)) l) (row-fits T (good .sound) (row-is k l)) ∙ earlier-same states rows accepting (target rows k) k
 
   pub ready : Ready rows accepting offsets heads next cs sums n
   ready = record {
     laid = p .laid;
     index = p .index;
-    targets = λ k l. omega (arith, row-fits T good (row-is k l), fits .few-states);
-    shares = λ k l. shared k l (map-below (held cs) (count T) states (rowNumbered rows k .args) counted (args-states good (row-is k l)));
-    small = λ k l. rw (counted (target rows k) (row-fits T good (row-is k l))) (fits .small-counts (target rows k) (row-fits T good (row-is k l)));
-    placed = λ k l. omega (arith, good .listed k l, fits .few-states);
-    total = rw (map-below (held cs) (count T) states accepting counted (good .listed)) (omega (arith, fits .small-total, total-is T));
+    targets = λ k l. omega (arith, row-fits T (good .sound) (row-is k l), fits .few-states);
+    shares = λ k l. shared k l (map-below (held cs) (count T) states (rowNumbered rows k .args) counted (args-states (good .sound) (row-is k l)));
+    small = λ k l. rw (counted (target rows k) (row-fits T (good .sound) (row-is k l))) (fits .small-counts (target rows k) (row-fits T (good .sound) (row-is k l)));
+    placed = λ k l. omega (arith, good .sound .listed k l, fits .few-states);
+    total = rw (map-below (held cs) (count T) states accepting counted (good .sound .listed)) (omega (arith, fits .small-total, total-is T));
   }
     where
       shared : (k : ℕ) → k < n → map (held cs) (rowNumbered rows k .args) ≡ map (count T) (rowNumbered rows k .args)
           → product (map (held cs) (rowNumbered rows k .args)) + getD sums k 0 ≤ held cs (target rows k)
       shared k l e =
-          let f = row-fits T good (row-is k l) in
+          let f = row-fits T (good .sound) (row-is k l) in
           rw (e, earlier k l, counted (target rows k) f, count-eqn T (good .ordered) (target rows k) f) (share T (count T) (row-is k l))
 
   -- the code's node is the table's
@@ -111,11 +111,11 @@ module _ (accepting : List ℕ) {states : ℕ} {rows offsets heads next first af
           let f = first-is (λ k. rowIs (rowNumbered rows k) s xs) n k e in
           let y = rowIs-true (rowNumbered rows k) s xs (f .1) in
           let w : IsRow (rowsOf rows) k s (target rows k) xs = rw (y .0, y .1) at (row-is k (f .0)) in
-          let i : rowWith (rowsOf rows) s xs ≡ k = rowWith-is (good .distinct) w in
+          let i : rowWith (rowsOf rows) s xs ≡ k = rowWith-is (good .sound .distinct) w in
           let q : targetOf T k ≡ target rows k = target-is T w in
-          let there : ltb (targetOf T k) states ≡ true = rw q (lt-ltb (target rows k) states (row-fits T good w)) in
+          let there : ltb (targetOf T k) states ≡ true = rw q (lt-ltb (target rows k) states (row-fits T (good .sound) w)) in
           let v : horner (held cs) 0 xs vs + getD sums k 0 ≡ rowValue T (count T) k vs
-          = ap (λ (x : ℕ). x + getD sums k 0) (horner-local (held cs) (count T) states counted 0 xs vs (args-states good w))
+          = ap (λ (x : ℕ). x + getD sums k 0) (horner-local (held cs) (count T) states counted 0 xs vs (args-states (good .sound) w))
           ∙ ap (λ (x : ℕ). horner (count T) 0 xs vs + x) (earlier k (f .0)) ∙ sym (row-value-is T (count T) w vs) in
           rw i ((λ j. Reaches (sym q j) (v j)) ∙ sym (node-yes T (count T) k vs there))
       go Nothing e =
@@ -133,7 +133,7 @@ module _ (accepting : List ℕ) {states : ℕ} {rows offsets heads next first af
 
   end-agrees : (q v place : ℕ) → numbered accepting cs q v place ≡ rowNumber T (count T) q v place
   unfolding numbered rowNumber
-  end-agrees q v place = rw (map-below (held cs) (count T) states accepting counted (good .listed))
+  end-agrees q v place = rw (map-below (held cs) (count T) states accepting counted (good .sound .listed))
 
   -- the machine numbers the tree
   pub machine-numbers : (tree : List ℕ) → WellFormed tree

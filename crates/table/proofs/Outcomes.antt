@@ -41,8 +41,8 @@ in-order states rows n few fine = record {
 pub entries-within : {states : ℕ} {rows accepting cs ls sums : List ℕ} → states ≤ 256 → AllFine (length accepting) (acceptingGround states accepting)
     → Known states rows states cs ls sums → Within countLimit cs accepting
 entries-within {states} {rows} {accepting} {cs} {ls} {sums} few fine x = record {
-  placed = λ k lt. omega (arith, entry-good states accepting k (fine k lt) .0);
-  small = λ k lt. small (getD accepting k 0) (entry-good states accepting k (fine k lt) .0);
+  placed = λ k lt. omega (arith, entry-good states accepting k (fine k lt) .state);
+  small = λ k lt. small (getD accepting k 0) (entry-good states accepting k (fine k lt) .state);
 }
   where
     small : (a : ℕ) → a < states → held cs a ≤ countLimit
@@ -121,7 +121,7 @@ fault-is states rows accepting q k f =
 module _ (states : ℕ) (rows accepting cs ls sums : List ℕ) (fine : AllFine (length accepting) (acceptingGround states accepting)) (x : Known states rows states cs ls sums)
     (t : ℕ) (e : t ≡ min (sum (map (held cs) accepting)) ceiling) where
   total-kept : t ≡ min (total (tableOf states rows accepting)) ceiling
-  total-kept = e ∙ ap (λ (v : ℕ). min v ceiling) (total-same states rows accepting cs (λ k lt. x .counts (getD accepting k 0) (entry-good states accepting k (fine k lt) .0)))
+  total-kept = e ∙ ap (λ (v : ℕ). min v ceiling) (total-same states rows accepting cs (λ k lt. x .counts (getD accepting k 0) (entry-good states accepting k (fine k lt) .state)))
 
   states-clear : (o : Outcome) → firstFaulty states (stateGround countLimit (tableOf states rows accepting)) o ≡ o
   states-clear o = no-fault states (stateGround countLimit (tableOf states rows accepting)) o (λ a l. ground-same states rows accepting a ∙ x .fine a l)

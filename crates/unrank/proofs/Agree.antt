@@ -61,7 +61,7 @@ module _ {states : ℕ} {rows accepting : List ℕ} {total : ℕ} {offsets first
   ws = map (held counts) accepting
 
   pub listed : Listed accepting counts number
-  listed = record { states = λ i l. omega (arith, good x .listed i l, few x); less = omega (arith, total-held x) }
+  listed = record { states = λ i l. omega (arith, good x .sound .listed i l, few x); less = omega (arith, total-held x) }
 
   finds : Found ws number (findBy ws number)
   finds = found ws number (listed .less)
@@ -73,7 +73,7 @@ module _ {states : ℕ} {rows accepting : List ℕ} {total : ℕ} {offsets first
   q = spotOf accepting counts number .state
 
   state : q < states
-  state = good x .listed (findBy ws number .which) inside
+  state = good x .sound .listed (findBy ws number .which) inside
 
   pub spot-valued : (s : Spot) → s ≡ spotOf accepting counts number → Valued rows offsets first after counts sums (s .state) (s .value)
   spot-valued s e = rw e (record {
@@ -97,4 +97,4 @@ module _ {states : ℕ} {rows accepting : List ℕ} {total : ℕ} {offsets first
       ∙ ap (λ (l : List ℕ). treeIn (rowsOf rows) c states (getD accepting (findBy l number .which) states) (findBy l number .rest)) lists-same)
     where
       lists-same : ws ≡ map c accepting
-      lists-same = map-agree (held counts) c 0 accepting (λ i l. x .counted (getD accepting i 0) (good x .listed i l))
+      lists-same = map-agree (held counts) c 0 accepting (λ i l. x .counted (getD accepting i 0) (good x .sound .listed i l))

@@ -46,7 +46,7 @@ module _ {states : ℕ} {rows accepting : List ℕ} {total : ℕ} {offsets first
   pub total-held : total ≡ sum (map (held counts) accepting)
   total-held =
       passing-total states rows accepting total (x .passes)
-      ∙ ap sum (map-agree (count (tableOf states rows accepting)) (held counts) 0 accepting (λ i l. sym (x .counted (getD accepting i 0) (good .listed i l))))
+      ∙ ap sum (map-agree (count (tableOf states rows accepting)) (held counts) 0 accepting (λ i l. sym (x .counted (getD accepting i 0) (good .sound .listed i l))))
 
 -- what the check leaves of a table that passes
 module _ {states : ℕ} {rows accepting offsets heads next first after counts longest sums : List ℕ} {r : Checked} (x : CheckAnswer states rows accepting offsets heads next first after counts longest sums r)
@@ -66,7 +66,7 @@ module _ {states : ℕ} {rows accepting offsets heads next first after counts lo
   target-low : (k : ℕ) → k < howManyRows rows → target rows k < states
   target-low k l =
       let m : k < length (rowsOf rows) = rw (rowsOf-length rows) l in
-      rw (rowsOf-at rows k noRow l) at (table-good .targets k m)
+      rw (rowsOf-at rows k noRow l) at (table-good .sound .targets k m)
 
   pub ready : Ready states rows accepting total offsets first after counts sums
   ready = record {

@@ -82,5 +82,5 @@ pub short : {rows offsets first after counts sums : List ℕ} {q value : ℕ} �
 unfolding entriesIn serial sum
 short {rows} {counts = counts} {q} {value} x =
     let T = tableOf (x .states) rows (x .accepting) in
-    let t = tree-valued T (good (x .ready)) (held counts) (counts-held (x .ready)) (suc q) q value (omega arith) (x .state) (x .less) in
+    let t = tree-valued T (good (x .ready) .sound) (held counts) (counts-held (x .ready)) (good (x .ready) .ordered) (suc q) q value (omega arith) (x .state) (x .less) in
     omega (arith, forest-most T (good (x .ready)) (t .reaches), within (x .ready) .small-trees q (x .state))
