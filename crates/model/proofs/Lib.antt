@@ -5,6 +5,7 @@ pub mod Lists
 pub mod Writing
 pub mod Good
 pub mod Counting
+pub mod Exactly
 pub mod Rows
 pub mod Reaching
 pub mod Checked

@@ -24,7 +24,8 @@ use Rattle.model.proofs.Good.{Sound, Good}
 use Rattle.model.proofs.Counting.{count-counts, total-is}
 use Rattle.model.proofs.Checked.{sound-good, state-good}
 use Rattle.model.proofs.Longest.{forest-most, longest-none, longest-tree}
-use Rattle.model.proofs.Pairing.{exactly-map, all-counted}
+use Rattle.model.proofs.Exactly.{exactly-map}
+use Rattle.model.proofs.Pairing.{all-counted}
 
 -- ---- a state of a good table
 

@@ -1,10 +1,9 @@
 -- The pairing of accepted trees and numbers: a tree's number is below the total, it is how many accepted trees come before it, and the tree of a
 -- number has that number.
-use Prim.Native.Nat.{ℕ, zero, suc, _+_, _<_}
+use Prim.Native.Nat.{ℕ, _+_, _<_}
 use mathlib.Core.Path.{_≡_, refl, ap, sym, _∙_, subst}
-use mathlib.Core.List.{List, [], _∷_, map, List·Memᴰ, List·Memᴰ·head, List·Memᴰ·tail}
+use mathlib.Core.List.{List, map}
 use native.Mathlib.Omega.{arith}
-use native.Mathlib.Nat.{not-suc-le-zero, le-of-suc-le-suc}
 use lib.ListN.{length, getD, take, length-map}
 use Rattle.model.specs.Table.{Table}
 use Rattle.model.specs.Tree.{Tree, only}
@@ -15,70 +14,10 @@ use Rattle.model.specs.Order.{Earlier, listedAt, ComesFirst, Before, Exa
 use Rattle.model.specs.Order.ComesFirst.{state as by-state, within as by-tree}
 use Rattle.model.proofs.Good.{Ordered, Sound}
 use Rattle.model.proofs.Counting.{getD-any, getD-map, sum-place}
+use Rattle.model.proofs.Exactly.{exactly}
 use Rattle.model.proofs.States.{state-reaches, entryOf-is, entryOf-first}
 use Rattle.model.proofs.Serial.{only-same}
 use Rattle.model.proofs.Values.{Three, lt, eq, gt, three, sum-step, Found, found, compare, value-below, value-rises, tree-valued}
-
--- ---- exactly so many
-
-module _ {A : Type 0} where
-  -- un 0, un 1 .., k of them
-  unfoldable upTo : (ℕ → A) → ℕ → List A
-  upTo un zero = []
-  upTo un (suc k) = un 0 ∷ upTo (λ i. un (suc i)) k
-
-  upTo-length : (un : ℕ → A) (k : ℕ) → length (upTo un k) ≡ k
-  unfolding upTo
-  upTo-length un zero = refl
-  upTo-length un (suc k) = ap suc (upTo-length (λ i. un (suc i)) k)
-
-  upTo-at : (un : ℕ → A) (k i : ℕ) (d : A) → i < k → getD (upTo un k) i d ≡ un i
-  unfolding upTo
-  upTo-at un zero i d l = absurd (not-suc-le-zero l)
-  upTo-at un (suc k) zero d l = refl
-  upTo-at un (suc k) (suc i) d l = upTo-at (λ i. un (suc i)) k i d (le-of-suc-le-suc l)
-
-  upTo-has : (un : ℕ → A) (k i : ℕ) → i < k → List·Memᴰ (un i) (upTo un k)
-  unfolding upTo
-  upTo-has un zero i l = absurd (not-suc-le-zero l)
-  upTo-has un (suc k) zero l = List·Memᴰ·head refl
-  upTo-has un (suc k) (suc i) l = List·Memᴰ·tail (upTo-has (λ i. un (suc i)) k i (le-of-suc-le-suc l))
-
-  -- things numbered below k, each number having its thing: there are exactly k, listed by their numbers
-  pub exactly : (un : ℕ → A) (number : A → ℕ) (P : A → Type 0) (k : ℕ) → ((i : ℕ) → i < k → number (un i) ≡ i) → ((i : ℕ) → i < k → P (un i))
-      → ((a : A) → P a → (number a < k) × (un (number a) ≡ a)) → Exactly P k
-  exactly un number P k right has back =
-      record {
-        list = upTo un k;
-        many = upTo-length un k;
-        different = λ i j d li lj e.
-            let f : un i ≡ un j = sym (upTo-at un k i d li) ∙ e ∙ upTo-at un k j d lj in
-            sym (right i li) ∙ ap number f ∙ right j lj;
-        each = λ i d l. subst P (sym (upTo-at un k i d l)) (has i l);
-        every = λ a p. let b = back a p in subst (λ (x : A). List·Memᴰ x (upTo un k)) (b .1) (upTo-has un k (number a) (b .0));
-      }
-
-map-has : {A B : Type 0} (f : A → B) (xs : List A) (a : A) → List·Memᴰ a xs → List·Memᴰ (f a) (map f xs)
-map-has f xs a (List·Memᴰ·head e) = List·Memᴰ·head (ap f e)
-map-has f xs a (List·Memᴰ·tail {xs = ys} m) = List·Memᴰ·tail (map-has f ys a m)
-
--- as many images as things, where different things have different images
-pub exactly-map : {A B : Type 0} (f : A → B) (a : A) (P : A → Type 0) (Q : B → Type 0) (n : ℕ)
-    → ((x y : A) → P x → P y → f x ≡ f y → x ≡ y) → ((x : A) → P x → Q (f x)) → ((b : B) → Q b → (x : A) × P x × (f x ≡ b)) → Exactly P n → Exactly Q n
-exactly-map {A} {B} f a P Q n once there back e =
-    record {
-      list = map f (e .list);
-      many = length-map (e .list) f ∙ e .many;
-      different = λ i j d li lj h. e .different i j a li lj (once (at i) (at j) (e .each i a li) (e .each j a lj) (sym (image i d li) ∙ h ∙ image j d lj));
-      each = λ i d l. subst Q (sym (image i d l)) (there (at i) (e .each i a l));
-      every = λ b q. let p = back b q in subst (λ (x : B). List·Memᴰ x (map f (e .list))) (p .2) (map-has f (e .list) (p .0) (e .every (p .0) (p .1)));
-    }
-  where
-    at : ℕ → A
-    at i = getD (e .list) i a
-
-    image : (i : ℕ) (d : B) → i < n → getD (map f (e .list)) i d ≡ f (getD (e .list) i a)
-    image i d l = getD-map f (e .list) i a d (rw (e .many) l)
 
 -- ---- accepted trees and numbers, with any counts
 

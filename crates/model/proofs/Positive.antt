@@ -18,8 +18,8 @@ use Rattle.model.specs.Names.{howManyNames, lineGround, namesOr}
 use Rattle.model.specs.Entries.{entryGround, endsTooSoon, formOr, treeOr, treeFrom}
 use Rattle.model.specs.Term.{Scan, passes, breaksAt, breakOr, scan, due, termOr}
 use Rattle.model.specs.TermOperations.{entriesOf, bytesOf, nameGround, symbolGround, readTermOutcome, writeTermOutcome}
-use Rattle.model.specs.Number.{checkedThen, reachesNone, stuckOr, acceptedOr, numberOutcome}
-use Rattle.model.specs.Write.{entriesFor, writeOutcome}
+use Rattle.model.specs.Number.{checkedThen, reachesNone, stuckOr, acceptedOr, numberTree, numberOutcome}
+use Rattle.model.specs.Write.{treeEntries, writeTree, writeOutcome}
 use Rattle.model.proofs.Choice.{Decided, clear, faulty, decided}
 
 -- where the outcome is a refusal, its number is not 0
@@ -109,7 +109,7 @@ stuck-positive T (node s children right) place o h =
     stuck-positive T children (suc place) _ (positive-if (reachesNone T s children) 14 bar _ (omega arith) (stuck-positive T right (suc bar) o h))
 
 pub number-positive : (states : ℕ) (rows accepting tree : List ℕ) → Positive (numberOutcome states rows accepting tree)
-unfolding numberOutcome acceptedOr
+unfolding numberOutcome numberTree acceptedOr
 number-positive states rows accepting tree =
     let T = tableOf states rows accepting in
     let t = treeFrom tree in
@@ -121,8 +121,8 @@ number-positive states rows accepting tree =
     listed false n p = positive-refused 14 p (omega arith)
 
 pub write-tree-positive : (states : ℕ) (rows accepting : List ℕ) (number room : ℕ) → Positive (writeOutcome states rows accepting number room)
-unfolding writeOutcome
+unfolding writeOutcome writeTree
 write-tree-positive states rows accepting number room =
-    let needed = length (entriesFor states rows accepting number) in
+    let needed = length (treeEntries (tableOf states rows accepting) number) in
     then-positive (checkOutcome states rows accepting) _ (check-positive states rows accepting)
     (λ total. positive-if (not (ltb number total)) 15 0 _ (omega arith) (positive-if (ltb room needed) 16 needed _ (omega arith) (positive-result needed)))

@@ -17,8 +17,8 @@ use Rattle.model.specs.Names.{isLetter, isNameByte, sameName, linesOf, l
 use Rattle.model.specs.Entries.{openAfter, entryGround, endsTooSoon, formOr, treeOr, levelsOf, treeFrom}
 use Rattle.model.specs.Term.{textOfTerms, textOf, before, seenFrom, termFrom}
 use Rattle.model.specs.TermOperations.{symbolsOf, entriesOf}
-use Rattle.model.specs.Number.{reachesNone, stuckOr, acceptedOr, numberOutcome}
-use Rattle.model.specs.Write.{entriesFor, writeOutcome}
+use Rattle.model.specs.Number.{reachesNone, stuckOr, acceptedOr, numberTree, numberOutcome}
+use Rattle.model.specs.Write.{treeEntries, writeTree, writeTreeList, entriesFor, writeOutcome}
 use Rattle.model.specs.Paper.{paperRows, paperNames}
 use Rattle.model.proofs.Counting.{map-agree}
 use Rattle.model.proofs.Rows.{rowsOf-pack}
@@ -158,14 +158,14 @@ abbrev decided : List ℕ → Outcome
 decided entries = treeOr entries (acceptedOr plainTable (treeFrom entries) (result (numberOf plainTable plainCount (treeFrom entries))))
 
 number-by : (entries : List ℕ) → numberOutcome 5 paperRows (2 ∷ 4 ∷ []) entries ≡ decided entries
-unfolding numberOutcome paperTable
+unfolding numberTree numberOutcome paperTable
 number-by entries =
     checked-then (checkOutcome 5 paperRows (2 ∷ 4 ∷ [])) 12 (λ total. treeOr entries (acceptedOr paperTable (treeFrom entries) (result (numberOf paperTable (count paperTable) (treeFrom entries))))) passes
     ∙ ap (λ (T : Table). treeOr entries (acceptedOr T (treeFrom entries) (result (numberOf T (count T) (treeFrom entries))))) table-is
     ∙ ap (λ (c : ℕ → ℕ). treeOr entries (acceptedOr plainTable (treeFrom entries) (result (numberOf plainTable c (treeFrom entries))))) count-is
 
 write-by : (n room : ℕ) → writeOutcome 5 paperRows (2 ∷ 4 ∷ []) n room ≡ fitting n room (entriesFor 5 paperRows (2 ∷ 4 ∷ []) n)
-unfolding writeOutcome
+unfolding writeOutcome writeTree entriesFor
 write-by n room = checked-then (checkOutcome 5 paperRows (2 ∷ 4 ∷ [])) 12 _ passes
 
 parts-by : (t : Tree) → partsOf (tableOf 5 paperRows (2 ∷ 4 ∷ [])) (count (tableOf 5 paperRows (2 ∷ 4 ∷ []))) t ≡ partsOf plainTable plainCount t

@@ -17,8 +17,8 @@ use Rattle.model.specs.Count.{sum, product, weight, stateCounts, grow, c
 use Rattle.model.specs.Value.{horner, earlierRows, rowValue, valuesOf, numberOf, findBy, childrenFrom, treeIn, treeOf}
 use Rattle.model.specs.Check.{allBelow, cut, tooMany, outOfRange, notBelow, repeated, rowGround, acceptingGround, stateGround, checkWithin, checkOutcome}
 use Rattle.model.specs.Entries.{openAfter, entryGround, endsTooSoon, formOr, treeOr, levelsOf, treeFrom}
-use Rattle.model.specs.Number.{reachesNone, stuckOr, acceptedOr, numberOutcome}
-use Rattle.model.specs.Write.{entriesFor, writeOutcome, writeList}
+use Rattle.model.specs.Number.{reachesNone, stuckOr, acceptedOr, numberTree, numberOutcome}
+use Rattle.model.specs.Write.{treeEntries, writeTree, writeTreeList, entriesFor, writeOutcome, writeList}
 use Rattle.model.proofs.Choice.{if-yes, if-no, no-fault, or-right}
 use Rattle.model.proofs.Edges.{row, power, two, below-above, even, lengths}
 
@@ -152,7 +152,7 @@ numbered =
     ∷ []
 
 numbered-hold : map given numbered ≡ map due numbered
-unfolding leaf small numbered checkOutcome checkWithin firstFaulty refuseOn anyBelow rowStart howMany howManyRows firstRows rowsOf sameList rowIs sum product weight stateCounts grow count total largest rowLongest stateLongest longest allBelow cut tooMany outOfRange notBelow repeated rowGround acceptingGround stateGround serialForest serial rowWith statesOf entryOf horner earlierRows rowValue valuesOf numberOf openAfter entryGround endsTooSoon formOr treeOr levelsOf treeFrom reachesNone stuckOr acceptedOr numberOutcome
+unfolding leaf small numbered checkOutcome checkWithin firstFaulty refuseOn anyBelow rowStart howMany howManyRows firstRows rowsOf sameList rowIs sum product weight stateCounts grow count total largest rowLongest stateLongest longest allBelow cut tooMany outOfRange notBelow repeated rowGround acceptingGround stateGround serialForest serial rowWith statesOf entryOf horner earlierRows rowValue valuesOf numberOf openAfter entryGround endsTooSoon formOr treeOr levelsOf treeFrom reachesNone stuckOr acceptedOr numberTree numberOutcome
 numbered-hold = refl
 
 written : List Example
@@ -172,7 +172,7 @@ written =
     ∷ []
 
 written-hold : map given written ≡ map due written
-unfolding leaf small written checkOutcome checkWithin firstFaulty refuseOn anyBelow rowStart howMany howManyRows firstRows rowsOf sameList rowIs sum product weight stateCounts grow count total largest rowLongest stateLongest longest allBelow cut tooMany outOfRange notBelow repeated rowGround acceptingGround stateGround serialForest serial findBy childrenFrom treeIn treeOf entriesFor writeOutcome writeList
+unfolding leaf small written checkOutcome checkWithin firstFaulty refuseOn anyBelow rowStart howMany howManyRows firstRows rowsOf sameList rowIs sum product weight stateCounts grow count total largest rowLongest stateLongest longest allBelow cut tooMany outOfRange notBelow repeated rowGround acceptingGround stateGround serialForest serial findBy childrenFrom treeIn treeOf treeEntries writeTree writeTreeList entriesFor writeOutcome writeList
 written-hold = refl
 
 -- ---- "A list that is no tree can open more": nodes that are opened and not closed, up to 4,096 of them

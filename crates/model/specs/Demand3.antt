@@ -1,4 +1,5 @@
--- The pairing of trees and numbers (demand 3), for a table that passes its check with the total n. Assumes nothing: these are definitions.
+-- The pairing of trees and numbers (demand 3), for a table that passes its check: of trees and numbers by their definitions alone, and with
+-- what the operations answer beside it. Assumes nothing: these are definitions.
 use Prim.Native.Nat.{ℕ, _<_, _≤_}
 use mathlib.Core.Path.{_≡_}
 use mathlib.Core.Logic.{_↔_}
@@ -8,17 +9,49 @@ use Rattle.model.specs.Answers.{Outcome, result, refused}
 use Rattle.model.specs.Table.{Table, tableOf}
 use Rattle.model.specs.Tree.{Tree, serial, WellFormed}
 use Rattle.model.specs.Reach.{Accepted}
+use Rattle.model.specs.Count.{count}
+use Rattle.model.specs.Value.{numberOf}
 use Rattle.model.specs.Order.{Exactly, ComeBefore}
-use Rattle.model.specs.Check.{Passes}
+use Rattle.model.specs.Check.{checkOutcome, Passes}
 use Rattle.model.specs.Place.{NotAccepted}
 use Rattle.model.specs.Number.{numberOutcome}
 use Rattle.model.specs.Write.{writeOutcome, writeList}
 
--- the table accepts the tree that the list is ("two trees are the same if their lists are")
+-- ---- trees and numbers, by definition
+
+-- a number's tree: it is accepted, the number is its (001, Figure 1), and exactly so many accepted trees come before it
+pub record HasTree (T : Table) (number : ℕ) : Type 0 where
+  pub tree : Tree
+  pub accepted : Accepted T tree
+  pub numbers : numberOf T (count T) tree ≡ number
+  pub before : ComeBefore T tree number
+
+-- the trees that a table accepts and the numbers below the total pair off
+pub record Pairing (T : Table) (total : ℕ) : Type 0 where
+  -- the table accepts exactly so many trees
+  pub accepted : Exactly (Accepted T) total
+  -- "two trees are the same if their lists are": so many trees are so many lists
+  pub lists : (t u : Tree) → Accepted T t → Accepted T u → serial t ≡ serial u → t ≡ u
+  -- a tree's number is below the total, and exactly so many accepted trees come before the tree
+  pub below : (t : Tree) → Accepted T t → numberOf T (count T) t < total
+  pub before : (t : Tree) → Accepted T t → ComeBefore T t (numberOf T (count T) t)
+  -- different trees have different numbers
+  pub different : (t u : Tree) → Accepted T t → Accepted T u → numberOf T (count T) t ≡ numberOf T (count T) u → t ≡ u
+  -- every number below the total has its tree
+  pub back : (n : ℕ) → n < total → HasTree T n
+
+-- ---- what the operations answer
+
+-- the table accepts the tree that the list is
 pub record AcceptsList (T : Table) (entries : List ℕ) : Type 0 where
   pub tree : Tree
   pub written : serial tree ≡ entries
   pub accepted : Accepted T tree
+
+-- and the number is the tree's
+pub record ListHasNumber (T : Table) (entries : List ℕ) (number : ℕ) : Type 0 where
+  pub accepts : AcceptsList T entries
+  pub numbers : numberOf T (count T) (accepts .tree) ≡ number
 
 -- a refusal
 pub record Refusing (o : Outcome) : Type 0 where
@@ -27,43 +60,46 @@ pub record Refusing (o : Outcome) : Type 0 where
   pub is : o ≡ refused number place
 
 module _ (states : ℕ) (rows accepting : List ℕ) where
-  -- an accepted tree has a number below the total, and exactly so many accepted trees come before it
-  pub record Numbered (total : ℕ) (entries : List ℕ) (t : Tree) : Type 0 where
-    pub number : ℕ
-    pub answer : numberOutcome states rows accepting entries ≡ result number
-    pub small : number < total
-    -- trees are counted; different accepted trees have different lists (the law `accepted-same`)
-    pub before : ComeBefore (tableOf states rows accepting) t number
-
-  -- a number has an accepted tree: it is the tree's number; written into any list that is long enough it gives the tree, the count of its
-  -- entries, and leaves the rest; a shorter list is 16, and stays as it is
-  pub record HasTree (number : ℕ) : Type 0 where
-    pub entries : List ℕ
-    pub accepts : AcceptsList (tableOf states rows accepting) entries
-    pub numbers : numberOutcome states rows accepting entries ≡ result number
+  -- writing gives these entries for the number: into any list that is long enough, with their count, and leaves the rest; a shorter list is
+  -- 16, with the entries needed, and stays as it is
+  pub record WritesEntries (number : ℕ) (entries : List ℕ) : Type 0 where
     pub answer : (tree : List ℕ) → length entries ≤ length tree → writeOutcome states rows accepting number (length tree) ≡ result (length entries)
     pub list : (tree : List ℕ) → length entries ≤ length tree → writeList states rows accepting number tree ≡ entries ++ drop (length entries) tree
     pub short : (tree : List ℕ) → length tree < length entries
         → (writeOutcome states rows accepting number (length tree) ≡ refused 16 (length entries)) × (writeList states rows accepting number tree ≡ tree)
 
-  pub record Demand3 (total : ℕ) : Type 0 where
-    -- the table accepts exactly so many trees
-    pub accepted : Exactly (AcceptsList (tableOf states rows accepting)) total
-    -- each has its number, counted over the trees that come before it
-    pub numbered : (entries : List ℕ) (a : AcceptsList (tableOf states rows accepting) entries) → Numbered total entries (a .tree)
-    -- different trees have different numbers
-    pub different : (x y : List ℕ) (n : ℕ) → numberOutcome states rows accepting x ≡ result n → numberOutcome states rows accepting y ≡ result n → x ≡ y
-    -- every number below the total has its tree
-    pub back : (n : ℕ) → n < total → HasTree n
+  -- numbering and writing, beside the pairing by definition
+  pub record AnswersOf (T : Table) (total : ℕ) : Type 0 where
+    -- numbering answers a number exactly for a list that is an accepted tree with that number
+    pub numbers : (entries : List ℕ) (n : ℕ) → (numberOutcome states rows accepting entries ≡ result n) ↔ ListHasNumber T entries n
+    -- a list is refused exactly if the table does not accept it; demand 3 speaks of the case of a well-formed list of at most 4,096 entries
+    pub refuses : (entries : List ℕ) → Refusing (numberOutcome states rows accepting entries) ↔ (AcceptsList T entries → ⊥)
+    -- in that case the refusal is 14, and its place is the one that document 01 says
+    pub places : (entries : List ℕ) (w : WellFormed entries) → length entries ≤ 4096 → (number place : ℕ)
+        → numberOutcome states rows accepting entries ≡ refused number place → (number ≡ 14) × NotAccepted T (w .tree) place
+    -- the number of an accepted tree is written back as its entries
+    pub writes : (t : Tree) → Accepted T t → WritesEntries (numberOf T (count T) t) (serial t)
     -- "A number not below the total is 15.", and the list stays as it is
     pub beyond : (n : ℕ) → total ≤ n → (tree : List ℕ)
         → (writeOutcome states rows accepting n (length tree) ≡ refused 15 0) × (writeList states rows accepting n tree ≡ tree)
-    -- a list is refused exactly if the table does not accept it; demand 3 speaks of the case of a well-formed list of at most 4,096 entries
-    pub refuses : (entries : List ℕ) → Refusing (numberOutcome states rows accepting entries) ↔ (AcceptsList (tableOf states rows accepting) entries → ⊥)
-    -- in that case the refusal is 14, and its place is the one that document 01 says
-    pub places : (entries : List ℕ) (w : WellFormed entries) → length entries ≤ 4096 → (number place : ℕ)
-        → numberOutcome states rows accepting entries ≡ refused number place → (number ≡ 14) × NotAccepted (tableOf states rows accepting) (w .tree) place
+
+  pub record Demand3 (total : ℕ) : Type 0 where
+    pub pairing : Pairing (tableOf states rows accepting) total
+    pub answers : AnswersOf (tableOf states rows accepting) total
 
 -- demand 3: every table that passes its check pairs off its trees and its numbers (the theorem `demand3`)
 abbrev pub PairsOff : Type 0
 PairsOff = (states : ℕ) (rows accepting : List ℕ) (n : ℕ) → Passes states rows accepting n → Demand3 states rows accepting n
+
+-- ---- a table that does not pass
+
+-- "It first refuses as the check does.": numbering any tree, and writing any number into any list, which stays as it is
+pub record RefusesAs (states : ℕ) (rows accepting : List ℕ) (number place : ℕ) : Type 0 where
+  pub numbering : (tree : List ℕ) → numberOutcome states rows accepting tree ≡ refused number place
+  pub writing : (n room : ℕ) → writeOutcome states rows accepting n room ≡ refused number place
+  pub list : (n : ℕ) (tree : List ℕ) → writeList states rows accepting n tree ≡ tree
+
+-- (the theorem `refuses-first`)
+abbrev pub RefusesFirst : Type 0
+RefusesFirst = (states : ℕ) (rows accepting : List ℕ) (number place : ℕ) → checkOutcome states rows accepting ≡ refused number place
+    → RefusesAs states rows accepting number place

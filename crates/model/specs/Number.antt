@@ -39,9 +39,13 @@ acceptedOr T t otherwise =
     stuckOr T (only t) 0
     (if ltb (entryOf (T .accepting) (stateOf T t)) (length (T .accepting)) then otherwise else refused 14 (length (serial t) - 1))
 
--- what numbering a tree answers, for any count of states and any three lists
-unfoldable pub numberOutcome : (states : ℕ) (rows accepting tree : List ℕ) → Outcome
-numberOutcome states rows accepting tree =
-    let T = tableOf states rows accepting in
+-- what numbering a tree of a table answers, where this is what the table's check answers
+unfoldable pub numberTree : (checked : Outcome) → Table → (tree : List ℕ) → Outcome
+numberTree checked T tree =
     let t = treeFrom tree in
-    checkedThen (checkOutcome states rows accepting) (λ total. treeOr tree (acceptedOr T t (result (numberOf T (count T) t))))
+    -- "It first refuses as the check does. More than 4,096 entries is 12.", then 13, then 14
+    checkedThen checked (λ total. treeOr tree (acceptedOr T t (result (numberOf T (count T) t))))
+
+-- what numbering a tree answers, for any count of states and any three lists: the table is lent with its rows in one list
+unfoldable pub numberOutcome : (states : ℕ) (rows accepting tree : List ℕ) → Outcome
+numberOutcome states rows accepting tree = numberTree (checkOutcome states rows accepting) (tableOf states rows accepting) tree

@@ -7,7 +7,7 @@ use lib.ListN.{length}
 use lib.Dec.{ltb}
 use Rattle.model.specs.Answers.{Outcome, result, refused, lentAfter}
 use Rattle.model.specs.Choice.{if_then_else_}
-use Rattle.model.specs.Table.{tableOf}
+use Rattle.model.specs.Table.{Table, tableOf}
 use Rattle.model.specs.Tree.{serial}
 use Rattle.model.specs.Count.{count}
 use Rattle.model.specs.Value.{treeOf}
@@ -15,23 +15,30 @@ use Rattle.model.specs.Check.{checkOutcome}
 use Rattle.model.specs.Number.{checkedThen}
 
 -- the entries of a number's tree
-unfoldable pub entriesFor : (states : ℕ) (rows accepting : List ℕ) (number : ℕ) → List ℕ
-entriesFor states rows accepting number =
-    let T = tableOf states rows accepting in
-    serial (treeOf T (count T) number)
+unfoldable pub treeEntries : Table → (number : ℕ) → List ℕ
+treeEntries T number = serial (treeOf T (count T) number)
 
--- what writing the tree of a number answers, for any count of states, any two lists and any number, into a list of so many entries
-unfoldable pub writeOutcome : (states : ℕ) (rows accepting : List ℕ) (number room : ℕ) → Outcome
-writeOutcome states rows accepting number room =
-    let needed = length (entriesFor states rows accepting number) in
+-- what writing the tree of a number answers for a table, where this is what the table's check answers, into a list of so many entries
+unfoldable pub writeTree : (checked : Outcome) → Table → (number room : ℕ) → Outcome
+writeTree checked T number room =
+    let needed = length (treeEntries T number) in
     -- "It first refuses as the check does."
-    checkedThen (checkOutcome states rows accepting) (λ total.
+    checkedThen checked (λ total.
     -- "A number not below the total is 15."
     if not (ltb number total) then refused 15 0 else
     -- "A lent list shorter than the tree is 16, the place being the entries needed."
     if ltb room needed then refused 16 needed else result needed)
 
 -- what the lent list holds afterwards
+unfoldable pub writeTreeList : (checked : Outcome) → Table → (number : ℕ) (tree : List ℕ) → List ℕ
+writeTreeList checked T number tree = lentAfter (writeTree checked T number (length tree)) (treeEntries T number) tree
+
+-- The same for any count of states and any two lists: the table is lent with its rows in one list
+unfoldable pub entriesFor : (states : ℕ) (rows accepting : List ℕ) (number : ℕ) → List ℕ
+entriesFor states rows accepting number = treeEntries (tableOf states rows accepting) number
+
+unfoldable pub writeOutcome : (states : ℕ) (rows accepting : List ℕ) (number room : ℕ) → Outcome
+writeOutcome states rows accepting number room = writeTree (checkOutcome states rows accepting) (tableOf states rows accepting) number room
+
 unfoldable pub writeList : (states : ℕ) (rows accepting : List ℕ) (number : ℕ) (tree : List ℕ) → List ℕ
-writeList states rows accepting number tree =
-    lentAfter (writeOutcome states rows accepting number (length tree)) (entriesFor states rows accepting number) tree
+writeList states rows accepting number tree = writeTreeList (checkOutcome states rows accepting) (tableOf states rows accepting) number tree

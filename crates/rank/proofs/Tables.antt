@@ -16,7 +16,7 @@ use Rattle.model.specs.Count.{product, weight, stateCounts, count, total}
 use Rattle.model.specs.Value.{horner, earlierRows, rowValue, numberOf}
 use Rattle.model.specs.Check.{checkOutcome, countLimit, Passes}
 use Rattle.model.specs.Entries.{treeOr, treeFrom}
-use Rattle.model.specs.Number.{checkedThen, acceptedOr, numberOutcome}
+use Rattle.model.specs.Number.{checkedThen, acceptedOr, numberTree, numberOutcome}
 use Rattle.model.proofs.Choice.{is-false}
 use Rattle.model.proofs.Good.{AllBelow, below-first, below-rest, Good, Within}
 use Rattle.model.proofs.Counting.{map-below, sum-place, weight-at, count-eqn, total-is}
@@ -153,7 +153,7 @@ module _ (accepting tree : List ℕ) {states : ℕ} {rows offsets heads next fir
     (a : CheckAnswer states rows accepting offsets heads next first after cs ls sums k) where
   -- 1 to 11
   pub table-refused : (r : Refusal) → k ≡ Refuses r → refusedBy r ≡ numberOutcome states rows accepting tree
-  unfolding numberOutcome
+  unfolding numberOutcome numberTree
   table-refused r e = then-same _ (refusedBy r) (checkOutcome states rows accepting) (sym (ap told e) ∙ a .answer)
 
   module _ (t n : ℕ) (e : k ≡ Sound t n) where
@@ -164,11 +164,11 @@ module _ (accepting tree : List ℕ) {states : ℕ} {rows offsets heads next fir
     number-ready = ready accepting (a .prepared t n e) passes
 
     pub tree-refused : {f : Form} → Decides tree f → (r : Refusal) → f ≡ RefusesList r → refusedBy r ≡ numberOutcome states rows accepting tree
-    unfolding numberOutcome
+    unfolding numberOutcome numberTree
     tree-refused d r h = list-refused d r h _ ∙ then-same _ (result t) (checkOutcome states rows accepting) (sym passes)
 
     pub tree-numbered : {f : Form} → Decides tree f → f ≡ FormTree → machine rows n accepting cs sums tree ≡ numberOutcome states rows accepting tree
-    unfolding numberOutcome
+    unfolding numberOutcome numberTree
     tree-numbered d h =
         machine-numbers accepting (a .prepared t n e) passes tree (list-well d h .0)
         ∙ list-taken d h _

@@ -8,7 +8,7 @@ use Rattle.model.specs.Table.{Row, noRow, rowsOf, tableOf}
 use Rattle.model.specs.Tree.{Tree, serial}
 use Rattle.model.specs.Count.{rowCounts, weight, count, total}
 use Rattle.model.specs.Value.{Picked, findBy, childrenFrom, treeIn, treeOf}
-use Rattle.model.specs.Write.{entriesFor}
+use Rattle.model.specs.Write.{treeEntries, entriesFor}
 use Rattle.model.proofs.Good.{AllBelow, below-first, below-rest, Ordered}
 use Rattle.model.proofs.Counting.{getD-any, getD-map, map-agree, rowCounts-local, weight-local}
 use Rattle.model.proofs.Values.{Found, found, found-args, depth-free}
@@ -87,7 +87,7 @@ module _ {states : ℕ} {rows accepting : List ℕ} {total : ℕ} {offsets first
 
   -- the entries are those of document 01
   pub entries-same : entriesOf rows accepting counts number ≡ entriesFor states rows accepting number
-  unfolding entriesOf entriesIn entriesFor treeOf
+  unfolding entriesOf entriesIn entriesFor treeEntries treeOf
   entries-same =
       let v = findBy ws number .rest in
       ap serial

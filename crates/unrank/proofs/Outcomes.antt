@@ -11,7 +11,7 @@ use Rattle.model.specs.Answers.{Outcome, result, refused, refusedBy, outcome, l
 use Rattle.model.specs.Choice.{if_then_else_}
 use Rattle.model.specs.Check.{checkOutcome}
 use Rattle.model.specs.Number.{checkedThen}
-use Rattle.model.specs.Write.{entriesFor, writeOutcome, writeList}
+use Rattle.model.specs.Write.{writeTree, writeTreeList, entriesFor, writeOutcome, writeList}
 use Rattle.model.specs.declared.Answer.{Answer}
 use Rattle.model.specs.declared.Answer.the-variants.{Refused}
 use Rattle.model.specs.declared.Refusal.{Refusal}
@@ -66,13 +66,13 @@ below states rows accepting number old total = if not (ltb number total) then re
 
 write-by : (states : ℕ) (rows accepting : List ℕ) (number : ℕ) (old : List ℕ) (o : Outcome) → o ≡ checkOutcome states rows accepting
     → checkedThen o (below states rows accepting number old) ≡ writeOutcome states rows accepting number (length old)
-unfolding writeOutcome
+unfolding writeOutcome writeTree entriesFor
 write-by states rows accepting number old o e = ap (λ (o : Outcome). checkedThen o (below states rows accepting number old)) e
 
 -- the answer decides, and the list then holds what it says
 told-so : (states : ℕ) (rows accepting : List ℕ) (number : ℕ) (old new : List ℕ) (r : Answer) (o : Outcome) → outcome r ≡ o → o ≡ writeOutcome states rows accepting number (length old)
     → new ≡ lentAfter o (entriesFor states rows accepting number) old → WroteTree states rows accepting number old new r
-unfolding writeList
+unfolding writeList writeTreeList writeOutcome entriesFor
 told-so states rows accepting number old new r o a e l = record { answer = a ∙ e; list = l ∙ ap (λ (o : Outcome). lentAfter o (entriesFor states rows accepting number) old) e }
 
 module _ {states : ℕ} {rows accepting offsets heads next first after counts longest sums : List ℕ} {x : Checked} (c : CheckAnswer states rows accepting offsets heads next first after counts longest sums x)
