@@ -170,7 +170,8 @@ module _ (states : ℕ) (rows accepting : List ℕ) (n : ℕ) (passes : Passes s
       }
 
   -- an accepted tree is written back from its number
-  entries-back : (t : Tree) → Accepted T t → entriesFor states rows accepting (numberOf T (count T) t) ≡ serial t
+  pub entries-back : (t : Tree) → Accepted (tableOf states rows accepting) t
+      → entriesFor states rows accepting (numberOf (tableOf states rows accepting) (count (tableOf states rows accepting)) t) ≡ serial t
   unfolding entriesFor treeEntries
   entries-back t a = ap serial (tree-of-number T passing-sound (count T) counts (passing-good .ordered) a)
 

@@ -27,6 +27,7 @@ pub mod Names
 pub mod Listed
 pub mod Inverse
 pub mod TermRefusals
+pub mod TreeRefusals
 pub mod TermExamples
 pub mod Starred
 pub mod Edges

@@ -21,6 +21,7 @@ use Rattle.model.specs.Place.{Closes, BarsClose, ReachesSome, NotAccepte
 use Rattle.model.proofs.Choice.{if-yes, if-no, if-result, else-result, refused-number, refused-place, not-both}
 use Rattle.model.proofs.Good.{AllBelow, below-none, below-cons, Sound}
 use Rattle.model.proofs.Longest.{forest-length, serial-length, row-fits}
+use Rattle.model.proofs.Reaching.{reaches-same}
 use Rattle.model.proofs.Serial.{serial-same}
 use Rattle.model.proofs.Values.{Three, lt, eq, gt, three}
 use Rattle.model.proofs.States.{reach-states, state-reaches, reaches-state, entryOf-first, accepted-exactly}
@@ -345,3 +346,28 @@ module _ (T : Table) (sound : Sound T) where
           → (number ≡ 14) × NotAccepted T t place
       go (clear d z) = last (ltb entry (length (T .accepting))) refl d (sym z ∙ e)
       go (halts i u c n d z) = let y = sym z ∙ e in let x : i ≡ place = omega (arith, refused-place y) in (sym (refused-number y), rw (← x) (stuck u c n d))
+
+  -- in a tree that reaches a state every bar closes one that does
+  pub reaching-bars : {t : Tree} {q : ℕ} → SymbolsInRange (only t) → Reaches (T .rows) t q → BarsClose (ReachesSome T) (serial t) (length (serial t))
+  unfolding serial
+  reaching-bars {t} h r = go (walked (only t) h 0 (result 0)) (stuck-taken T sound r 0 (result 0))
+    where
+      go : {o : Outcome} → Walked T (only t) 0 (result 0) o → o ≡ result 0 → BarsClose (ReachesSome T) (serialForest (only t)) (length (serialForest (only t)))
+      go (clear d z) e = d
+      go (halts i u c n d z) e = let x : _≡_ {A = ℕ} 0 1 = cc in absurd (omega arith)
+
+  -- 14's place is one place, and no accepted tree has it
+  pub not-accepted : {t : Tree} {place : ℕ} → SymbolsInRange (only t) → Accepted T t → NotAccepted T t place → ⊥
+  not-accepted h a (stuck u c n d) = let p = bars-each (reaching-bars h (a .reaches)) c (closes-inside c) in n (p .0) (p .1)
+  not-accepted h a (unlisted d q r n p) = n (a .entry) (a .listed) (reaches-same (sound .distinct) (a .reaches) r)
+
+pub not-accepted-once : {T : Table} {t : Tree} {p q : ℕ} → NotAccepted T t p → NotAccepted T t q → p ≡ q
+not-accepted-once {T} {t} {p} {q} (stuck u c n d) (stuck v e m f) = go (three p q)
+  where
+    go : Three (p < q) (p ≡ q) (q < p) → p ≡ q
+    go (lt l) = let x = bars-each f c l in absurd (n (x .0) (x .1))
+    go (eq z) = z
+    go (gt l) = let x = bars-each d e l in absurd (m (x .0) (x .1))
+not-accepted-once (stuck u c n d) (unlisted f q r m z) = let x = bars-each f c (closes-inside c) in absurd (n (x .0) (x .1))
+not-accepted-once (unlisted f q r m z) (stuck u c n d) = let x = bars-each f c (closes-inside c) in absurd (n (x .0) (x .1))
+not-accepted-once (unlisted f q r m z) (unlisted g s t n y) = omega arith
