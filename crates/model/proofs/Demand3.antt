@@ -162,6 +162,7 @@ module _ (states : ℕ) (rows accepting : List ℕ) (n : ℕ) (passes : Passes s
   passing-pairs =
       record {
         accepted = subst (Exactly (Accepted T)) (sym passing-total) (all-counted T passing-sound (count T) counts (passing-good .ordered));
+        written = λ t a. (reach-symbols passing-sound (a .reaches), accepted-short passing-good passing-within a);
         lists = λ t u a b e. accepted-same passing-sound a b e;
         below = λ t a. number-less a;
         before = λ t a. before-counted T passing-sound (count T) counts (passing-good .ordered) a;
@@ -219,7 +220,7 @@ demand3 states rows accepting n passes =
         numbers = numbers-exactly states rows accepting n passes;
         refuses = refused-exactly states rows accepting n passes;
         places = number-refused states rows accepting n passes;
-        writes = tree-written states rows accepting n passes;
+        writes = λ m h. subst (λ (k : ℕ). WritesEntries states rows accepting k (serial (h .tree))) (h .numbers) (tree-written states rows accepting n passes (h .tree) (h .accepted));
         beyond = λ m h tree. (beyond-answer states rows accepting n passes m (length tree) h, beyond-list states rows accepting n passes m tree h);
       };
     }

@@ -3,7 +3,7 @@ use Prim.Native.Nat.{ℕ}
 use mathlib.Core.Path.{_≡_, refl, ap, sym, _∙_}
 use mathlib.Core.List.{List, [], _∷_, _++_, append-assoc, head-eq-of-cons-eq, tail-eq-of-cons-eq}
 use native.Mathlib.Omega.{arith}
-use Rattle.model.specs.Tree.{Forest, Tree, empty, node, only, serialForest, serial, SymbolsInRange, WellFormed}
+use Rattle.model.specs.Tree.{Forest, Tree, empty, node, only, serialForest, serial, SymbolsInRange, WellFormed, SameTree}
 
 -- forests up to a bar, whatever comes after it: a symbol, being 1 at least, is told from the bar
 pub serial-bar : (f g : Forest) (x y : List ℕ) → SymbolsInRange f → SymbolsInRange g → serialForest f ++ 0 ∷ x ≡ serialForest g ++ 0 ∷ y → (f ≡ g) × (x ≡ y)
@@ -30,7 +30,7 @@ only-same {t} {u} e = ap first e
     first (node s k r) = record { symbol = s; children = k }
 
 -- trees
-pub serial-same : (t u : Tree) → SymbolsInRange (only t) → SymbolsInRange (only u) → serial t ≡ serial u → t ≡ u
+pub serial-same : SameTree
 unfolding serial
 serial-same t u p q e = only-same (serialForest-same (only t) (only u) p q e)
 

@@ -20,7 +20,7 @@ use Rattle.model.specs.Number.{acceptedOr, numberTree, numberOutcome}
 use Rattle.model.specs.Entries.{treeOr, treeFrom}
 use Rattle.model.specs.Write.{entriesFor, writeOutcome}
 use Rattle.model.specs.Demand3.{HasTree}
-use Rattle.model.specs.TreeRefusals.{NumberRefused, unchecked, number12, number13, number14, TreeRefused, untold, tree15, tree16, NumberRefuses, TreeRefuses}
+use Rattle.model.specs.TreeRefusals.{NumberRefused, numberAsCheck, number12, number13, number14, TreeRefused, treeAsCheck, tree15, tree16, NumberRefuses, TreeRefuses}
 use Rattle.model.proofs.Choice.{refused-number, refused-place}
 use Rattle.model.proofs.Serial.{serial-same}
 use Rattle.model.proofs.Entries.{tree-or-back}
@@ -59,7 +59,7 @@ module _ (states : ℕ) (rows accepting : List ℕ) where
       at total passes (after l w z) = let p = number-refused states rows accepting total passes tree w l number place e in number14 (p .0) total passes l w (p .1)
 
       go : (o : Outcome) → checkOutcome states rows accepting ≡ o → NumberRefused states rows accepting tree number place
-      go (refused k p) c = unchecked (c ∙ sym (refuses-first states rows accepting k p c .numbering tree) ∙ e)
+      go (refused k p) c = numberAsCheck (c ∙ sym (refuses-first states rows accepting k p c .numbering tree) ∙ e)
       go (result total) c = at total c (tree-place tree number place _ (sym (numbers-by total c tree) ∙ e))
 
   -- the tree of a numbered list
@@ -71,7 +71,7 @@ module _ (states : ℕ) (rows accepting : List ℕ) where
       not-accepted T (passing-sound states rows accepting total passes) (w .symbols) (subst (Accepted T) same (a .accepted)) n
 
   ground-number : (tree : List ℕ) (number place : ℕ) → NumberRefused states rows accepting tree number place → numberOutcome states rows accepting tree ≡ refused number place
-  ground-number tree number place (unchecked c) = refuses-first states rows accepting number place c .numbering tree
+  ground-number tree number place (numberAsCheck c) = refuses-first states rows accepting number place c .numbering tree
   ground-number tree number place (number12 x y total passes l) = same-refusal (numbers-by total passes tree ∙ too-long tree _ l) (sym x) (sym y)
   ground-number tree number place (number13 x total passes l s) = go (numberOutcome states rows accepting tree) refl
     where
@@ -120,11 +120,11 @@ module _ (states : ℕ) (rows accepting : List ℕ) where
           fits total passes (lt-of-not-le l) h (decLe (length (serial (h .tree))) room)
 
       go : (o : Outcome) → checkOutcome states rows accepting ≡ o → TreeRefused states rows accepting n room number place
-      go (refused k p) c = untold (c ∙ sym (refuses-first states rows accepting k p c .writing n room) ∙ e)
+      go (refused k p) c = treeAsCheck (c ∙ sym (refuses-first states rows accepting k p c .writing n room) ∙ e)
       go (result total) c = at total c (decLe total n)
 
   ground-tree : (n room number place : ℕ) → TreeRefused states rows accepting n room number place → writeOutcome states rows accepting n room ≡ refused number place
-  ground-tree n room number place (untold c) = refuses-first states rows accepting number place c .writing n room
+  ground-tree n room number place (treeAsCheck c) = refuses-first states rows accepting number place c .writing n room
   ground-tree n room number place (tree15 x y total passes l) = same-refusal (beyond-answer states rows accepting total passes n room l) (sym x) (sym y)
   ground-tree n room number place (tree16 x total passes less h y l) = same-refusal (short total passes n less h room (rw y at l)) (sym x) (sym y)
 

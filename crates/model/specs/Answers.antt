@@ -64,7 +64,7 @@ kindNumber UnnamedSymbol = 23
 -- "A short lent list is 24, with the bytes needed."
 kindNumber ShortTextList = 24
 
--- what a refusal, and an answer, of the code says in document 01's numbers: promises are stated by outcomes
+-- what the code's refusals and answers say in document 01's numbers: promises are stated by outcomes
 abbrev pub refusedBy : Refusal → Outcome
 refusedBy r = refused (kindNumber (r .kind)) (r .place)
 

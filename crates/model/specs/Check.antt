@@ -69,7 +69,7 @@ checkWithin limit states rows accepting =
     firstFaulty (howManyRows rows) (rowGround states rows)
     -- "Then the accepting list"
     (firstFaulty (howManyEntries accepting) (acceptingGround states accepting)
-    -- "a list longer than the count of states is 8" (after 7 none is: the law `entries-few`)
+    -- "a list longer than the count of states is 8" (where no entry is 7, none is longer: the law `entries-few`)
     (if ltb states (howManyEntries accepting) then refused 8 0 else
     -- "Then states are taken in turn from 0, the first faulty state decides, and its number is the place"
     firstFaulty states (stateGround limit T)

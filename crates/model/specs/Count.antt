@@ -31,8 +31,8 @@ weight c q r = if eqb (r .target) q then rowCounts c r else 0
 unfoldable pub stateCounts : List Row → (ℕ → ℕ) → ℕ → ℕ
 stateCounts rows c q = sum (map (weight c q) rows)
 
--- a count function for the states of a table, whatever the order of its states: it satisfies the equations. (There is just one where the
--- arguments are states and no state lies below itself; where arguments are below targets: the law `counts-unique`)
+-- a count function for the states of a table, whatever the order of its states: it satisfies the equations for every state. (On the states
+-- there is just one such function if no state lies below itself; proved where arguments are below targets: the law `counts-unique`)
 pub record Counts (T : Table) (c : ℕ → ℕ) : Type 0 where
   pub state : (q : ℕ) → q < T .states → c q ≡ stateCounts (T .rows) c q
 
@@ -62,7 +62,7 @@ unfoldable pub stateLongest : List Row → (c l : ℕ → ℕ) → ℕ → ℕ
 stateLongest rows c l q = largest (map (rowLongest c l q) rows)
 
 -- how many entries a state's longest tree has, in a good table, within the limits or not (the laws `longest-tree` and `state-told`).
--- "A state that counts 0 has none.": then this is 0, which no tree has (the laws `longest-none` and `none-reaches`)
+-- "A state that counts 0 has none.": then this is 0, which is no tree's length (the laws `longest-none` and `none-reaches`)
 unfoldable pub longest : Table → ℕ → ℕ
 longest T q = getD (grow (stateLongest (T .rows) (count T)) (T .states)) q 0
 

@@ -1,5 +1,5 @@
--- The pairing of trees and numbers (demand 3), for a table that passes its check: of trees and numbers by their definitions alone, and with
--- what the operations answer beside it. Assumes nothing: these are definitions.
+-- Demand 3, for a table that passes its check: `Pairing` speaks of trees and numbers as they are defined, `AnswersOf` of what the operations
+-- answer. Assumes nothing: these are definitions.
 use Prim.Native.Nat.{ℕ, _<_, _≤_}
 use mathlib.Core.Path.{_≡_}
 use mathlib.Core.Logic.{_↔_}
@@ -7,10 +7,9 @@ use mathlib.Core.List.{List, _++_}
 use lib.ListN.{length, drop}
 use Rattle.model.specs.Answers.{Outcome, result, refused}
 use Rattle.model.specs.Table.{Table, tableOf}
-use Rattle.model.specs.Tree.{Tree, serial, WellFormed}
+use Rattle.model.specs.Tree.{Tree, only, serial, SymbolsInRange, WellFormed}
 use Rattle.model.specs.Reach.{Accepted}
-use Rattle.model.specs.Count.{count}
-use Rattle.model.specs.Value.{numberOf}
+use Rattle.model.specs.Value.{treeNumber}
 use Rattle.model.specs.Order.{Exactly, ComeBefore}
 use Rattle.model.specs.Check.{checkOutcome, Passes}
 use Rattle.model.specs.Place.{NotAccepted}
@@ -19,24 +18,26 @@ use Rattle.model.specs.Write.{writeOutcome, writeList}
 
 -- ---- trees and numbers, by definition
 
--- a number's tree: it is accepted, the number is its (001, Figure 1), and exactly so many accepted trees come before it
+-- a number's tree: it is accepted, this is its number (001, Figure 1), and exactly so many accepted trees come before it
 pub record HasTree (T : Table) (number : ℕ) : Type 0 where
   pub tree : Tree
   pub accepted : Accepted T tree
-  pub numbers : numberOf T (count T) tree ≡ number
+  pub numbers : treeNumber T tree ≡ number
   pub before : ComeBefore T tree number
 
 -- the trees that a table accepts and the numbers below the total pair off
 pub record Pairing (T : Table) (total : ℕ) : Type 0 where
   -- the table accepts exactly so many trees
   pub accepted : Exactly (Accepted T) total
-  -- "two trees are the same if their lists are": so many trees are so many lists
+  -- each is written as a well-formed list of at most 4,096 entries
+  pub written : (t : Tree) → Accepted T t → SymbolsInRange (only t) × (length (serial t) ≤ 4096)
+  -- "two trees are the same if their lists are": so counting trees is counting lists
   pub lists : (t u : Tree) → Accepted T t → Accepted T u → serial t ≡ serial u → t ≡ u
   -- a tree's number is below the total, and exactly so many accepted trees come before the tree
-  pub below : (t : Tree) → Accepted T t → numberOf T (count T) t < total
-  pub before : (t : Tree) → Accepted T t → ComeBefore T t (numberOf T (count T) t)
+  pub below : (t : Tree) → Accepted T t → treeNumber T t < total
+  pub before : (t : Tree) → Accepted T t → ComeBefore T t (treeNumber T t)
   -- different trees have different numbers
-  pub different : (t u : Tree) → Accepted T t → Accepted T u → numberOf T (count T) t ≡ numberOf T (count T) u → t ≡ u
+  pub different : (t u : Tree) → Accepted T t → Accepted T u → treeNumber T t ≡ treeNumber T u → t ≡ u
   -- every number below the total has its tree
   pub back : (n : ℕ) → n < total → HasTree T n
 
@@ -51,7 +52,7 @@ pub record AcceptsList (T : Table) (entries : List ℕ) : Type 0 where
 -- and the number is the tree's
 pub record ListHasNumber (T : Table) (entries : List ℕ) (number : ℕ) : Type 0 where
   pub accepts : AcceptsList T entries
-  pub numbers : numberOf T (count T) (accepts .tree) ≡ number
+  pub numbers : treeNumber T (accepts .tree) ≡ number
 
 -- a refusal
 pub record Refusing (o : Outcome) : Type 0 where
@@ -69,23 +70,23 @@ module _ (states : ℕ) (rows accepting : List ℕ) where
         → (writeOutcome states rows accepting number (length tree) ≡ refused 16 (length entries)) × (writeList states rows accepting number tree ≡ tree)
 
   -- numbering and writing, beside the pairing by definition
-  pub record AnswersOf (T : Table) (total : ℕ) : Type 0 where
+  pub record AnswersOf (total : ℕ) : Type 0 where
     -- numbering answers a number exactly for a list that is an accepted tree with that number
-    pub numbers : (entries : List ℕ) (n : ℕ) → (numberOutcome states rows accepting entries ≡ result n) ↔ ListHasNumber T entries n
+    pub numbers : (entries : List ℕ) (n : ℕ) → (numberOutcome states rows accepting entries ≡ result n) ↔ ListHasNumber (tableOf states rows accepting) entries n
     -- a list is refused exactly if the table does not accept it; demand 3 speaks of the case of a well-formed list of at most 4,096 entries
-    pub refuses : (entries : List ℕ) → Refusing (numberOutcome states rows accepting entries) ↔ (AcceptsList T entries → ⊥)
+    pub refuses : (entries : List ℕ) → Refusing (numberOutcome states rows accepting entries) ↔ (AcceptsList (tableOf states rows accepting) entries → ⊥)
     -- in that case the refusal is 14, and its place is the one that document 01 says
     pub places : (entries : List ℕ) (w : WellFormed entries) → length entries ≤ 4096 → (number place : ℕ)
-        → numberOutcome states rows accepting entries ≡ refused number place → (number ≡ 14) × NotAccepted T (w .tree) place
-    -- the number of an accepted tree is written back as its entries
-    pub writes : (t : Tree) → Accepted T t → WritesEntries (numberOf T (count T) t) (serial t)
+        → numberOutcome states rows accepting entries ≡ refused number place → (number ≡ 14) × NotAccepted (tableOf states rows accepting) (w .tree) place
+    -- a number is written back as the entries of its tree
+    pub writes : (n : ℕ) (h : HasTree (tableOf states rows accepting) n) → WritesEntries n (serial (h .tree))
     -- "A number not below the total is 15.", and the list stays as it is
     pub beyond : (n : ℕ) → total ≤ n → (tree : List ℕ)
         → (writeOutcome states rows accepting n (length tree) ≡ refused 15 0) × (writeList states rows accepting n tree ≡ tree)
 
   pub record Demand3 (total : ℕ) : Type 0 where
     pub pairing : Pairing (tableOf states rows accepting) total
-    pub answers : AnswersOf (tableOf states rows accepting) total
+    pub answers : AnswersOf total
 
 -- demand 3: every table that passes its check pairs off its trees and its numbers (the theorem `demand3`)
 abbrev pub PairsOff : Type 0

@@ -19,8 +19,8 @@ openAfter depth (e ∷ es) = openAfter (if eqb e 0 then depth - 1 else suc depth
 abbrev pub openAt : List ℕ → ℕ → ℕ
 openAt entries i = openAfter 0 (take i entries)
 
--- "the place is the first entry that is above 255, is a bar with no node open, or follows the root's bar": up to the
--- first such entry, after entry 0 no node is open just where the root's bar has been read
+-- "the place is the first entry that is above 255, is a bar with no node open, or follows the root's bar": where
+-- no entry before it is faulty, no node is open at an entry after the first exactly if the root's bar has been read
 unfoldable pub entryGround : List ℕ → ℕ → ℕ
 entryGround entries i =
     if ltb 255 (getD entries i 0)

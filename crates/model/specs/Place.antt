@@ -12,8 +12,8 @@ pub record CanGoOn (Whole : List ℕ → Type 0) (items : List ℕ) : Type 0 whe
   pub more : List ℕ
   pub whole : Whole (items ++ more)
 
--- "the first byte with which no term can go on, or the text's length if it ends too soon" (19, the law `scan-place`), and what
--- follows for 13 (the law `form-place`): all before the place can be completed, one item more cannot; at the list's end the list is not
+-- "the first byte with which no term can go on, or the text's length if it ends too soon" (19, the law `scan-place`); document 01's cases of
+-- 13 come to the same (the law `form-place`): all before the place can be completed, one item more cannot; at the list's end the list is not
 -- whole. There is one such place at most (the law `stops-once`)
 pub record StopsAt (Whole : List ℕ → Type 0) (items : List ℕ) (place : ℕ) : Type 0 where
   pub within : place ≤ length items
@@ -33,7 +33,7 @@ pub record Closes (entries : List ℕ) (i : ℕ) (t : Tree) : Type 0 where
 abbrev pub BarsClose : (Tree → Type 0) → List ℕ → ℕ → Type 0
 BarsClose P entries n = (i : ℕ) → i < n → getD entries i 0 ≡ 0 → (u : Tree) × Closes entries i u × P u
 
--- not "reaching no state": the tree reaches some state
+-- the tree reaches a state, so it is not one "reaching no state"
 abbrev pub ReachesSome : Table → Tree → Type 0
 ReachesSome T t = (q : ℕ) × Reaches (T .rows) t q
 

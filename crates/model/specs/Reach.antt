@@ -23,8 +23,8 @@ pub record Accepted (T : Table) (t : Tree) : Type 0 where
   pub listed : entry < length (T .accepting)
   pub reaches : Reaches (T .rows) t (getD (T .accepting) entry 0)
 
--- The same by functions, for a table that is good (the laws `states-reach` and `reach-states`, with `Good` as their premise; a table that
--- passes its check is good, the law `checked-good`); elsewhere `Reach` decides.
+-- The same by functions, for a sound table (the laws `states-reach` and `reach-states`, with `Sound` as their premise; a table that passes its
+-- check is sound, the law `passing-sound`). For a table that is not, only `Reach` says what document 01 means; the operations refuse it first.
 -- The number of the first row with symbol s and arguments xs; where there is none, the count of rows
 unfoldable pub rowWith : List Row → ℕ → List ℕ → ℕ
 rowWith [] s xs = 0

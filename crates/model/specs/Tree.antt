@@ -36,3 +36,7 @@ pub record WellFormed (entries : List ℕ) : Type 0 where
   pub tree : Tree
   pub symbols : SymbolsInRange (only tree)
   pub written : serial tree ≡ entries
+
+-- "two trees are the same if their lists are" (the law `serial-same`)
+abbrev pub SameTree : Type 0
+SameTree = (t u : Tree) → SymbolsInRange (only t) → SymbolsInRange (only u) → serial t ≡ serial u → t ≡ u

@@ -17,10 +17,10 @@ module _ (states : ℕ) (rows accepting : List ℕ) where
   -- why numbering a tree is refused: the grounds in their order, each where none before it holds
   pub data NumberRefused (tree : List ℕ) (number place : ℕ) : Type 0 where
     -- "It first refuses as the check does."
-    unchecked : checkOutcome states rows accepting ≡ refused number place → NumberRefused tree number place
+    numberAsCheck : checkOutcome states rows accepting ≡ refused number place → NumberRefused tree number place
     -- "More than 4,096 entries is 12."
     number12 : number ≡ 12 → place ≡ 0 → (total : ℕ) → Passes states rows accepting total → 4096 < length tree → NumberRefused tree number place
-    -- "For 13, each entry read opens a node, closes one, or is refused"
+    -- "For 13, each entry read opens a node, closes one, or is refused"; its place, told by what can be completed to a tree
     number13 : number ≡ 13 → (total : ℕ) → Passes states rows accepting total → length tree ≤ 4096 → StopsAt WellFormed tree place
         → NumberRefused tree number place
     -- "A tree that the table does not accept is 14."
@@ -30,14 +30,15 @@ module _ (states : ℕ) (rows accepting : List ℕ) where
   -- why writing the tree of a number into a list of so many entries is refused
   pub data TreeRefused (n room number place : ℕ) : Type 0 where
     -- "It first refuses as the check does."
-    untold : checkOutcome states rows accepting ≡ refused number place → TreeRefused n room number place
+    treeAsCheck : checkOutcome states rows accepting ≡ refused number place → TreeRefused n room number place
     -- "A number not below the total is 15."
     tree15 : number ≡ 15 → place ≡ 0 → (total : ℕ) → Passes states rows accepting total → total ≤ n → TreeRefused n room number place
     -- "A lent list shorter than the tree is 16, the place being the entries needed."
     tree16 : number ≡ 16 → (total : ℕ) → Passes states rows accepting total → n < total → (h : HasTree (tableOf states rows accepting) n)
         → place ≡ length (serial (h .tree)) → room < place → TreeRefused n room number place
 
--- a refusal and its ground determine each other (the theorems `number-refuses` and `tree-refuses`)
+-- numbering (writing) is refused by this number, at this place, exactly if one of the grounds above holds (the theorems `number-refuses` and
+-- `tree-refuses`)
 abbrev pub NumberRefuses : Type 0
 NumberRefuses =
     (states : ℕ) (rows accepting tree : List ℕ) (number place : ℕ)

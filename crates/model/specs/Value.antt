@@ -7,7 +7,7 @@ use Rattle.model.specs.Choice.{if_then_else_}
 use Rattle.model.specs.Table.{Row, Table, noRow}
 use Rattle.model.specs.Tree.{Forest, Tree, empty, node, only}
 use Rattle.model.specs.Reach.{targetOf, rowOf, stateOf, entryOf}
-use Rattle.model.specs.Count.{sum, rowCounts, weight}
+use Rattle.model.specs.Count.{sum, rowCounts, weight, count}
 
 -- "start at 0; for each child from the first, multiply by the count of the child's state and add the child's value":
 -- c the counts, h what is found so far, xs the children's states, vs their values
@@ -35,6 +35,10 @@ valueOf T c t = getD (valuesOf T c (only t)) 0 0
 -- "Its number is that value plus the counts of the accepting states listed earlier (001, Figure 1)."
 unfoldable pub numberOf : Table → (ℕ → ℕ) → Tree → ℕ
 numberOf T c t = valueOf T c t + sum (take (entryOf (T .accepting) (stateOf T t)) (map c (T .accepting)))
+
+-- a tree's number in a table, with the counts of its states
+abbrev pub treeNumber : Table → Tree → ℕ
+treeNumber T t = numberOf T (count T) t
 
 -- what is found by the sums: which of the weights holds h, and what is left of h there
 pub record Picked : Type 0 where
