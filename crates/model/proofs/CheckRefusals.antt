@@ -3,9 +3,8 @@ use Prim.Native.Nat.{ℕ, suc, _+_, _-_, _≤_, _<_}
 use mathlib.Core.Path.{_≡_, refl, ap, sym, subst, _∙_}
 use mathlib.Core.Bool.{Bool, true, false, not, _&&_, _||_}
 use mathlib.Core.Logic.{_⊎_, inl, inr, _↔_}
-use mathlib.Core.List.{List, [], _∷_, List·Memᴰ, List·Memᴰ·head, List·Memᴰ·tail}
+use mathlib.Core.List.{List, [], _∷_}
 use native.Mathlib.Omega.{arith}
-use native.Mathlib.Decide.{decLe}
 use native.Mathlib.Nat.{not-suc-le-zero, eq-zero-or-pos}
 use lib.ListN.{length, getD}
 use lib.Dec.{eqb, ltb, leb}
@@ -14,13 +13,14 @@ use Rattle.model.specs.Answers.{Outcome, result, refused}
 use Rattle.model.specs.Choice.{if_then_else_, firstFaulty, anyBelow}
 use Rattle.model.specs.Table.{Row, Table, countAt, rowStart, rowNumbered, howManyRows, rowsOf, rowIs, howManyEntries, stateAt, tableOf}
 use Rattle.model.specs.Count.{count, total, longest}
-use Rattle.model.specs.Entries.{noTree}
-use Rattle.model.specs.Order.{Exactly}
+use Rattle.model.specs.Tree.{Tree}
+use Rattle.model.specs.Reach.{Reaches, Accepted}
 use Rattle.model.specs.Check.{allBelow, isState, cut, tooMany, outOfRange, notBelow, repeated, rowGround, acceptingGround, stateGround, checkWithin, checkOutcome, countLimit}
 use Rattle.model.specs.Limits.{ReachedBy, WithinLimits, BeyondLimits, nine, ten}
 use Rattle.model.specs.CheckRefusals.{Begins, RowCut, RowTooMany, SomeArgument, RowOutOfRange, RowNotBelow, RowRepeated, RowRefused, row2, row3, row4, row5, row6, FaultlessRow, FaultlessRows, EntryFaulty, FaultlessEntries, CheckRefused, check1, check2to6, check7, check9to10, check11, CheckRefuses, CheckGives}
 use Rattle.model.proofs.Choice.{if-no, if-yes, if-zero, refused-number, refused-place, or-true, or-left, or-right, not-both, is-false, no-fault, fault-refused, any-true, any-some, if-refused, Decided, clear, faulty, decided}
-use Rattle.model.proofs.Good.{pigeon, Good}
+use Rattle.model.proofs.Good.{Good}
+use Rattle.model.proofs.Exactly.{exactly-once}
 use Rattle.model.proofs.Longest.{longest-none, longest-tree}
 use Rattle.model.proofs.Passing.{state-ground}
 use Rattle.model.proofs.Limits.{state-counted, tree-most, within-limits, beyond-limits, total-counted}
@@ -269,36 +269,9 @@ module _ (states : ℕ) (accepting : List ℕ) (i : ℕ) where
 
 -- ---- one state
 
--- where a thing of a list stands
-stands : {A : Type 0} (d a : A) (xs : List A) → List·Memᴰ a xs → (k : ℕ) × (k < length xs) × (getD xs k d ≡ a)
-stands d a xs (List·Memᴰ·head e) = (0, omega arith, sym e)
-stands d a xs (List·Memᴰ·tail {xs = ys} m) = let s = stands d a ys m in (suc (s .0), omega (arith, s .1), s .2)
-
--- things are counted once
-few-exactly : {A : Type 0} {P : A → Type 0} (d : A) (m n : ℕ) → Exactly P m → Exactly P n → m ≤ n
-few-exactly {A} {P} d m n x y = pigeon m n (λ i. at i (decLe (suc i) m)) (λ i l. at-is i l (decLe (suc i) m) .0) once
-  where
-    at : (i : ℕ) → Dec (suc i ≤ m) → ℕ
-    at i (yes l) = stands d (getD (x .list) i d) (y .list) (y .every (getD (x .list) i d) (x .each i d l)) .0
-    at i (no l) = 0
-
-    at-is : (i : ℕ) → i < m → (q : Dec (suc i ≤ m)) → (at i q < n) × (getD (y .list) (at i q) d ≡ getD (x .list) i d)
-    at-is i k (yes l) =
-        let s = stands d (getD (x .list) i d) (y .list) (y .every (getD (x .list) i d) (x .each i d l)) in
-        (omega (arith, s .1, y .many), s .2)
-    at-is i k (no l) = absurd (l k)
-
-    once : (i j : ℕ) → i < m → j < m → at i (decLe (suc i) m) ≡ at j (decLe (suc j) m) → i ≡ j
-    once i j li lj e =
-        x .different i j d li lj
-        (sym (at-is i li (decLe (suc i) m) .1) ∙ ap (λ (k : ℕ). getD (y .list) k d) e ∙ at-is j lj (decLe (suc j) m) .1)
-
-exactly-once : {A : Type 0} {P : A → Type 0} (d : A) (m n : ℕ) → Exactly P m → Exactly P n → m ≡ n
-exactly-once d m n x y = omega (arith, few-exactly d m n x y, few-exactly d n m y x)
-
 module _ (T : Table) (good : Good T) (q : ℕ) (l : q < T .states) where
   counted : (many : ℕ) → ReachedBy (T .rows) q many → many ≡ count T q
-  counted many r = exactly-once noTree many (count T q) r (state-counted T good q l)
+  counted many r = exactly-once (λ (t : Tree). Reaches (T .rows) t q) many (count T q) r (state-counted T good q l)
 
   pub limits-ground : WithinLimits (T .rows) q → stateGround countLimit T q ≡ 0
   limits-ground w = state-ground countLimit T q (omega (arith, counted (w .many) (w .reached), w .few)) (go (eq-zero-or-pos (count T q)))
@@ -467,7 +440,7 @@ module _ (states : ℕ) (rows accepting : List ℕ) where
       (entries-pass s (faultless-rows c) (faultless-entries d)
       ∙ no-fault states (stateGround countLimit T) afterStates (λ q l. limits-ground T good q l (f .states q l))
       ∙ if-yes (ltb countLimit (total T)) (refused 11 0) (result (total T))
-      (lt-ltb countLimit (total T) (omega (arith, exactly-once noTree (f .many) (total T) (f .accepted) (total-counted T good), f .beyond))))
+      (lt-ltb countLimit (total T) (omega (arith, exactly-once (Accepted T) (f .many) (total T) (f .accepted) (total-counted T good), f .beyond))))
 
 -- each refusal from 1 to 11 has its ground, and each ground its refusal
 pub check-refuses : CheckRefuses
