@@ -5,7 +5,8 @@ use mathlib.Core.Bool.{Bool, true, false, not, _&&_, _||_}
 use mathlib.Core.Logic.{_⊎_, inl, inr, _↔_}
 use mathlib.Core.List.{List, [], _∷_}
 use native.Mathlib.Omega.{arith}
-use native.Mathlib.Nat.{not-suc-le-zero, eq-zero-or-pos}
+use native.Mathlib.Decide.{decLe}
+use native.Mathlib.Nat.{not-suc-le-zero, eq-zero-or-pos, lt-of-not-le}
 use lib.ListN.{length, getD}
 use lib.Dec.{eqb, ltb, leb}
 use borrow.Author.Tests.{ltb-true, ltb-false, leb-true, eqb-true, not-true, lt-ltb, le-ltb, le-leb, eq-eqb}
@@ -53,6 +54,9 @@ or-tells {P} {Q} a b t u = (λ e. there (or-true a b e), back)
 lt-tells : (a b : ℕ) → Tells (ltb a b) (a < b)
 lt-tells a b = (ltb-true a b, lt-ltb a b)
 
+eq-tells : (a b : ℕ) → Tells (eqb a b) (a ≡ b)
+eq-tells a b = (eqb-true a b, eq-eqb a b)
+
 le-tells : (a b : ℕ) → Tells (leb a b) (a ≤ b)
 le-tells a b = (leb-true a b, le-leb a b)
 
@@ -86,11 +90,11 @@ row-begins : (rows : List ℕ) (i : ℕ) → i < howManyRows rows → Begins row
 row-begins rows i l = rowCount rows .inside i l
 
 begins-row : (rows : List ℕ) (i : ℕ) → Begins rows i → i < howManyRows rows
-begins-row rows i b = go (ltb i (howManyRows rows)) (ltb-true i (howManyRows rows)) (ltb-false i (howManyRows rows))
+begins-row rows i b = go (decLe (howManyRows rows) i)
   where
-    go : (t : Bool) → (t ≡ true → i < howManyRows rows) → (t ≡ false → howManyRows rows ≤ i) → i < howManyRows rows
-    go true y n = y refl
-    go false y n = absurd (omega (arith, rowCount rows .end, rowStart-grows rows (howManyRows rows) i (n refl)))
+    go : Dec (howManyRows rows ≤ i) → i < howManyRows rows
+    go (yes l) = absurd (omega (arith, rowCount rows .end, rowStart-grows rows (howManyRows rows) i l))
+    go (no l) = lt-of-not-le l
 
 module _ (states : ℕ) (rows : List ℕ) (i : ℕ) where
   abbrev start : ℕ
@@ -99,165 +103,172 @@ module _ (states : ℕ) (rows : List ℕ) (i : ℕ) where
   abbrev r : Row
   r = rowNumbered rows i
 
-  cut-tells : Tells (cut rows start) (RowCut rows i)
+  -- the tests within a row, in their order
+  abbrev test2 : Bool
+  test2 = cut rows start
+
+  abbrev test3 : Bool
+  test3 = tooMany i (countAt rows start)
+
+  abbrev test4 : Bool
+  test4 = outOfRange states r
+
+  abbrev test5 : Bool
+  test5 = notBelow r
+
+  abbrev test6 : Bool
+  test6 = repeated rows i
+
+  tells2 : Tells test2 (RowCut rows i)
   unfolding cut
-  cut-tells = (there, back)
+  tells2 = (λ e. there (or-true few fewer e), back)
     where
-      there : (ltb (length rows - start) 3 || ltb (length rows - start - 3) (countAt rows start)) ≡ true → RowCut rows i
-      there e = go (or-tells (ltb (length rows - start) 3) (ltb (length rows - start - 3) (countAt rows start)) (lt-tells (length rows - start) 3) (lt-tells (length rows - start - 3) (countAt rows start)) .0 e)
+      few : Bool
+      few = ltb (length rows - start) 3
+
+      fewer : Bool
+      fewer = ltb (length rows - start - 3) (countAt rows start)
+
+      there : (few ≡ true) ⊎ (fewer ≡ true) → RowCut rows i
+      there (inl e) = inl (omega (arith, ltb-true (length rows - start) 3 e))
+      there (inr e) = inr (omega (arith, ltb-true (length rows - start - 3) (countAt rows start) e))
+
+      none : length rows < start + 3 → (few || fewer) ≡ true
+      none l = or-left few fewer (lt-ltb (length rows - start) 3 (omega arith))
+
+      back : RowCut rows i → (few || fewer) ≡ true
+      back (inl l) = none l
+      back (inr l) = go (decLe (start + 3) (length rows))
         where
-          go : (length rows - start < 3) ⊎ (length rows - start - 3 < countAt rows start) → RowCut rows i
-          go (inl l) = inl (omega arith)
-          go (inr l) = inr (omega arith)
+          go : Dec (start + 3 ≤ length rows) → (few || fewer) ≡ true
+          go (yes m) = or-right few fewer (lt-ltb (length rows - start - 3) (countAt rows start) (omega arith))
+          go (no m) = none (lt-of-not-le m)
 
-      few : length rows < start + 3 → (ltb (length rows - start) 3 || ltb (length rows - start - 3) (countAt rows start)) ≡ true
-      few l = or-left (ltb (length rows - start) 3) (ltb (length rows - start - 3) (countAt rows start)) (lt-ltb (length rows - start) 3 (omega arith))
-
-      back : RowCut rows i → (ltb (length rows - start) 3 || ltb (length rows - start - 3) (countAt rows start)) ≡ true
-      back (inl l) = few l
-      back (inr l) = go (ltb (length rows) (start + 3)) (ltb-true (length rows) (start + 3)) (ltb-false (length rows) (start + 3))
-        where
-          go : (t : Bool) → (t ≡ true → length rows < start + 3) → (t ≡ false → start + 3 ≤ length rows) → (ltb (length rows - start) 3 || ltb (length rows - start - 3) (countAt rows start)) ≡ true
-          go true y n = few (y refl)
-          go false y n =
-              or-right (ltb (length rows - start) 3) (ltb (length rows - start - 3) (countAt rows start))
-              (lt-ltb (length rows - start - 3) (countAt rows start) (omega (arith, n refl)))
-
-  many-tells : Tells (tooMany i (countAt rows start)) (RowTooMany rows i)
+  tells3 : Tells test3 (RowTooMany rows i)
   unfolding tooMany
-  many-tells = or-tells (leb 1024 i) (ltb 16 (countAt rows start)) (le-tells 1024 i) (lt-tells 16 (countAt rows start))
+  tells3 = or-tells (leb 1024 i) (ltb 16 (countAt rows start)) (le-tells 1024 i) (lt-tells 16 (countAt rows start))
 
-  range-tells : Tells (outOfRange states r) (RowOutOfRange states r)
+  tells4 : Tells test4 (RowOutOfRange states r)
   unfolding outOfRange
-  range-tells = (λ e. right (four .0 e), λ p. four .1 (left p))
+  tells4 = (λ e. right (four .0 e), λ p. four .1 (left p))
     where
-      four : Tells (eqb (r .symbol) 0 || ltb 255 (r .symbol) || not (isState states (r .target)) || not (allBelow states (r .args)))
-          ((((r .symbol ≡ 0) ⊎ (255 < r .symbol)) ⊎ (states ≤ r .target)) ⊎ SomeArgument r (λ a. states ≤ a))
+      Four : Type 0
+      Four = (((r .symbol ≡ 0) ⊎ (255 < r .symbol)) ⊎ (states ≤ r .target)) ⊎ SomeArgument r (λ a. states ≤ a)
+
+      four : Tells (eqb (r .symbol) 0 || ltb 255 (r .symbol) || not (isState states (r .target)) || not (allBelow states (r .args))) Four
       four =
           or-tells _ _
-          (or-tells _ _
-          (or-tells _ _ (eqb-true (r .symbol) 0, eq-eqb (r .symbol) 0) (lt-tells 255 (r .symbol)))
-          (not-lt-tells (r .target) states))
+          (or-tells _ _ (or-tells _ _ (eq-tells (r .symbol) 0) (lt-tells 255 (r .symbol))) (not-lt-tells (r .target) states))
           (not-all-tells states (r .args))
 
-      right : (((r .symbol ≡ 0) ⊎ (255 < r .symbol)) ⊎ (states ≤ r .target)) ⊎ SomeArgument r (λ a. states ≤ a) → RowOutOfRange states r
+      right : Four → RowOutOfRange states r
       right (inl (inl (inl x))) = inl x
       right (inl (inl (inr x))) = inr (inl x)
       right (inl (inr x)) = inr (inr (inl x))
       right (inr x) = inr (inr (inr x))
 
-      left : RowOutOfRange states r → (((r .symbol ≡ 0) ⊎ (255 < r .symbol)) ⊎ (states ≤ r .target)) ⊎ SomeArgument r (λ a. states ≤ a)
+      left : RowOutOfRange states r → Four
       left (inl x) = inl (inl (inl x))
       left (inr (inl x)) = inl (inl (inr x))
       left (inr (inr (inl x))) = inl (inr x)
       left (inr (inr (inr x))) = inr x
 
-  below-tells : Tells (notBelow r) (RowNotBelow r)
+  tells5 : Tells test5 (RowNotBelow r)
   unfolding notBelow
-  below-tells = not-all-tells (r .target) (r .args)
+  tells5 = not-all-tells (r .target) (r .args)
 
-  repeated-tells : Tells (repeated rows i) (RowRepeated rows i)
+  tells6 : Tells test6 (RowRepeated rows i)
   unfolding repeated
-  repeated-tells =
-      let t = any-tells i (λ j. rowIs (rowNumbered rows j) (r .symbol) (r .args)) (λ j.
-      (rowIs-true (rowNumbered rows j) (r .symbol) (r .args), λ s. rowIs-yes (rowNumbered rows j) (r .symbol) (r .args) (s .0) (s .1))) in
-      (λ e. let s = t .0 e in (s .0, s .1, s .2 .0, s .2 .1), λ s. t .1 (s .0, s .1, (s .2, s .3)))
+  tells6 = (λ e. let s = t .0 e in (s .0, s .1, s .2 .0, s .2 .1), λ s. t .1 (s .0, s .1, (s .2, s .3)))
+    where
+      Same : ℕ → Type 0
+      Same j = (rowNumbered rows j .symbol ≡ r .symbol) × (rowNumbered rows j .args ≡ r .args)
 
-  -- no ground holds, or the first that does
+      t : Tells (anyBelow i (λ j. rowIs (rowNumbered rows j) (r .symbol) (r .args))) ((j : ℕ) × (j < i) × Same j)
+      t = any-tells i (λ j. rowIs (rowNumbered rows j) (r .symbol) (r .args)) (λ j.
+          (rowIs-true (rowNumbered rows j) (r .symbol) (r .args), λ s. rowIs-yes (rowNumbered rows j) (r .symbol) (r .args) (s .0) (s .1)))
+
+  -- the row's ground is the first test that holds
   pub row-faultless : rowGround states rows i ≡ 0 → FaultlessRow states rows i
   unfolding rowGround
   row-faultless e =
-      let a = if-zero (cut rows start) 1 _ e in
-      let b = if-zero (tooMany i (countAt rows start)) 2 _ (a .1) in
-      let c = if-zero (outOfRange states r) 3 _ (b .1) in
-      let d = if-zero (notBelow r) 4 _ (c .1) in
-      let f = if-zero (repeated rows i) 5 _ (d .1) in
+      let a = if-zero test2 1 _ e in
+      let b = if-zero test3 2 _ (a .1) in
+      let c = if-zero test4 3 _ (b .1) in
+      let d = if-zero test5 4 _ (c .1) in
+      let f = if-zero test6 5 _ (d .1) in
       record {
-        not2 = tells-no (cut rows start) cut-tells (a .0);
-        not3 = tells-no (tooMany i (countAt rows start)) many-tells (b .0);
-        not4 = tells-no (outOfRange states r) range-tells (c .0);
-        not5 = tells-no (notBelow r) below-tells (d .0);
-        not6 = tells-no (repeated rows i) repeated-tells (f .0);
+        not2 = tells-no test2 tells2 (a .0);
+        not3 = tells-no test3 tells3 (b .0);
+        not4 = tells-no test4 tells4 (c .0);
+        not5 = tells-no test5 tells5 (d .0);
+        not6 = tells-no test6 tells6 (f .0);
       }
-
-  pub faultless-row : FaultlessRow states rows i → rowGround states rows i ≡ 0
-  unfolding rowGround
-  faultless-row f =
-      rw (
-        tells-false (cut rows start) cut-tells (f .not2),
-        tells-false (tooMany i (countAt rows start)) many-tells (f .not3),
-        tells-false (outOfRange states r) range-tells (f .not4),
-        tells-false (notBelow r) below-tells (f .not5),
-        tells-false (repeated rows i) repeated-tells (f .not6),
-      )
 
   pub row-refused : 0 < rowGround states rows i → RowRefused states rows i (rowGround states rows i)
   unfolding rowGround
-  row-refused = go (cut rows start) (tooMany i (countAt rows start)) (outOfRange states r) (notBelow r) (repeated rows i) cut-tells many-tells range-tells below-tells repeated-tells
+  row-refused = go test2 test3 test4 test5 test6 tells2 tells3 tells4 tells5 tells6
     where
       go : (a b c d e : Bool) → Tells a (RowCut rows i) → Tells b (RowTooMany rows i) → Tells c (RowOutOfRange states r) → Tells d (RowNotBelow r) → Tells e (RowRepeated rows i)
           → 0 < (if a then 2 else if b then 3 else if c then 4 else if d then 5 else if e then 6 else 0)
           → RowRefused states rows i (if a then 2 else if b then 3 else if c then 4 else if d then 5 else if e then 6 else 0)
-      go true b c d e v w x y z p = row2 refl (v .0 refl)
-      go false true c d e v w x y z p = row3 refl (tells-no false v refl) (w .0 refl)
-      go false false true d e v w x y z p = row4 refl (tells-no false v refl) (tells-no false w refl) (x .0 refl)
-      go false false false true e v w x y z p = row5 refl (tells-no false v refl) (tells-no false w refl) (tells-no false x refl) (y .0 refl)
-      go false false false false true v w x y z p =
-          row6 refl (tells-no false v refl) (tells-no false w refl) (tells-no false x refl) (tells-no false y refl) (z .0 refl)
-      go false false false false false v w x y z p = absurd (not-suc-le-zero p)
+      go true b c d e t2 t3 t4 t5 t6 p = row2 refl (t2 .0 refl)
+      go false true c d e t2 t3 t4 t5 t6 p = row3 refl (tells-no false t2 refl) (t3 .0 refl)
+      go false false true d e t2 t3 t4 t5 t6 p = row4 refl (tells-no false t2 refl) (tells-no false t3 refl) (t4 .0 refl)
+      go false false false true e t2 t3 t4 t5 t6 p = row5 refl (tells-no false t2 refl) (tells-no false t3 refl) (tells-no false t4 refl) (t5 .0 refl)
+      go false false false false true t2 t3 t4 t5 t6 p =
+          row6 refl (tells-no false t2 refl) (tells-no false t3 refl) (tells-no false t4 refl) (tells-no false t5 refl) (t6 .0 refl)
+      go false false false false false t2 t3 t4 t5 t6 p = absurd (not-suc-le-zero p)
+
+  no2 : (RowCut rows i → ⊥) → test2 ≡ false
+  no2 = tells-false test2 tells2
+
+  no3 : (RowTooMany rows i → ⊥) → test3 ≡ false
+  no3 = tells-false test3 tells3
+
+  no4 : (RowOutOfRange states r → ⊥) → test4 ≡ false
+  no4 = tells-false test4 tells4
+
+  no5 : (RowNotBelow r → ⊥) → test5 ≡ false
+  no5 = tells-false test5 tells5
+
+  pub faultless-row : FaultlessRow states rows i → rowGround states rows i ≡ 0
+  unfolding rowGround
+  faultless-row f = rw (no2 (f .not2), no3 (f .not3), no4 (f .not4), no5 (f .not5), tells-false test6 tells6 (f .not6))
 
   pub refused-row : (number : ℕ) → RowRefused states rows i number → (rowGround states rows i ≡ number) × (0 < number)
   unfolding rowGround
-  refused-row number (row2 n x) = (rw (cut-tells .1 x, n), rw n (omega arith))
-  refused-row number (row3 n a x) = (rw (tells-false (cut rows start) cut-tells a, many-tells .1 x, n), rw n (omega arith))
-  refused-row number (row4 n a b x) =
-      (rw (tells-false (cut rows start) cut-tells a, tells-false (tooMany i (countAt rows start)) many-tells b, range-tells .1 x, n), rw n (omega arith))
-  refused-row number (row5 n a b c x) = (
-    rw (
-      tells-false (cut rows start) cut-tells a,
-      tells-false (tooMany i (countAt rows start)) many-tells b,
-      tells-false (outOfRange states r) range-tells c,
-      below-tells .1 x,
-      n,
-    ),
-    rw n (omega arith),
-  )
-  refused-row number (row6 n a b c d x) = (
-    rw (
-      tells-false (cut rows start) cut-tells a,
-      tells-false (tooMany i (countAt rows start)) many-tells b,
-      tells-false (outOfRange states r) range-tells c,
-      tells-false (notBelow r) below-tells d,
-      repeated-tells .1 x,
-      n,
-    ),
-    rw n (omega arith),
-  )
+  refused-row number (row2 n x) = (rw (tells2 .1 x, n), rw n (omega arith))
+  refused-row number (row3 n a x) = (rw (no2 a, tells3 .1 x, n), rw n (omega arith))
+  refused-row number (row4 n a b x) = (rw (no2 a, no3 b, tells4 .1 x, n), rw n (omega arith))
+  refused-row number (row5 n a b c x) = (rw (no2 a, no3 b, no4 c, tells5 .1 x, n), rw n (omega arith))
+  refused-row number (row6 n a b c d x) = (rw (no2 a, no3 b, no4 c, no5 d, tells6 .1 x, n), rw n (omega arith))
 
 -- ---- one accepting entry
 
-entry-tells : (states : ℕ) (accepting : List ℕ) (i : ℕ)
-    → Tells (not (isState states (stateAt accepting i)) || anyBelow i (λ j. eqb (stateAt accepting j) (stateAt accepting i))) (EntryFaulty states accepting i)
-entry-tells states accepting i =
-    or-tells (not (isState states (stateAt accepting i))) (anyBelow i (λ j. eqb (stateAt accepting j) (stateAt accepting i)))
-    (not-lt-tells (stateAt accepting i) states)
-    (any-tells i (λ j. eqb (stateAt accepting j) (stateAt accepting i)) (λ j. (eqb-true (stateAt accepting j) (stateAt accepting i), eq-eqb (stateAt accepting j) (stateAt accepting i))))
-
 module _ (states : ℕ) (accepting : List ℕ) (i : ℕ) where
-  abbrev test : Bool
-  test = not (isState states (stateAt accepting i)) || anyBelow i (λ j. eqb (stateAt accepting j) (stateAt accepting i))
+  abbrev again : ℕ → Bool
+  again j = eqb (stateAt accepting j) (stateAt accepting i)
+
+  abbrev test7 : Bool
+  test7 = not (isState states (stateAt accepting i)) || anyBelow i again
+
+  tells7 : Tells test7 (EntryFaulty states accepting i)
+  tells7 =
+      or-tells (not (isState states (stateAt accepting i))) (anyBelow i again)
+      (not-lt-tells (stateAt accepting i) states) (any-tells i again (λ j. eq-tells (stateAt accepting j) (stateAt accepting i)))
 
   pub entry-faultless : acceptingGround states accepting i ≡ 0 → EntryFaulty states accepting i → ⊥
   unfolding acceptingGround
-  entry-faultless e = tells-no test (entry-tells states accepting i) (if-zero test 6 0 e .0)
+  entry-faultless e = tells-no test7 tells7 (if-zero test7 6 0 e .0)
 
   pub faultless-entry : (EntryFaulty states accepting i → ⊥) → acceptingGround states accepting i ≡ 0
   unfolding acceptingGround
-  faultless-entry h = if-no test 7 0 (tells-false test (entry-tells states accepting i) h)
+  faultless-entry h = if-no test7 7 0 (tells-false test7 tells7 h)
 
   pub entry-faulty : 0 < acceptingGround states accepting i → (acceptingGround states accepting i ≡ 7) × EntryFaulty states accepting i
   unfolding acceptingGround
-  entry-faulty = go test (entry-tells states accepting i)
+  entry-faulty = go test7 tells7
     where
       go : (b : Bool) → Tells b (EntryFaulty states accepting i) → 0 < (if b then 7 else 0) → _≡_ {A = ℕ} (if b then 7 else 0) 7 × EntryFaulty states accepting i
       go true t p = (refl, t .0 refl)
@@ -265,7 +276,7 @@ module _ (states : ℕ) (accepting : List ℕ) (i : ℕ) where
 
   pub faulty-entry : EntryFaulty states accepting i → acceptingGround states accepting i ≡ 7
   unfolding acceptingGround
-  faulty-entry f = if-yes test 7 0 (entry-tells states accepting i .1 f)
+  faulty-entry f = if-yes test7 7 0 (tells7 .1 f)
 
 -- ---- one state
 
