@@ -132,9 +132,10 @@ numbered =
     ∷ numbers 257 [] [] (256 ∷ []) (refused 1 0)
     ∷ numbers 1 (leaf ++ 1 ∷ []) [] (replicate 4097 1) (refused 2 1)
     ∷ numbers 3 (even ++ row 5 2 (1 ∷ 1 ∷ [])) [] [] (refused 9 2)
-    -- 12: before 13
+    -- 12: before 13, and of a tree too
     ∷ numbers 1 leaf (0 ∷ []) (replicate 4097 0) (refused 12 0)
     ∷ numbers 1 leaf (0 ∷ []) (replicate 4096 0) (refused 13 0)
+    ∷ numbers 1 leaf (0 ∷ []) (replicate 2049 1 ++ replicate 2049 0) (refused 12 0)
     -- 13: above 255, a bar with no node open, after the root's bar, at the end
     ∷ numbers 1 leaf (0 ∷ []) (255 ∷ 256 ∷ 0 ∷ []) (refused 13 1)
     ∷ numbers 1 leaf (0 ∷ []) (0 ∷ []) (refused 13 0)
