@@ -31,6 +31,12 @@ refused-number e = cc
 pub refused-place : {a b c d : ℕ} → refused a b ≡ refused c d → b ≡ d
 refused-place e = cc
 
+-- a refusal behind a test: the test holds, and it is that refusal; or what follows is the refusal
+pub if-refused : (b : Bool) (m q k p : ℕ) (o : Outcome) → (if b then refused m q else o) ≡ refused k p
+    → ((b ≡ true) × (k ≡ m) × (p ≡ q)) ⊎ ((b ≡ false) × (o ≡ refused k p))
+if-refused true m q k p o e = inl (refl, sym (refused-number e), sym (refused-place e))
+if-refused false m q k p o e = inr (refl, e)
+
 -- no ground where there is a ground first: its test does not hold
 pub if-zero : (b : Bool) (k n : ℕ) → (if b then suc k else n) ≡ 0 → (b ≡ false) × (n ≡ 0)
 if-zero true k n e = absurd (omega arith)
@@ -50,6 +56,10 @@ or-left a b e = rw e
 pub or-right : (a b : Bool) → b ≡ true → (a || b) ≡ true
 or-right true b e = refl
 or-right false b e = e
+
+pub or-true : (a b : Bool) → (a || b) ≡ true → (a ≡ true) ⊎ (b ≡ true)
+or-true true b e = inl refl
+or-true false b e = inr e
 
 pub and-true : (a b : Bool) → (a && b) ≡ true → (a ≡ true) × (b ≡ true)
 and-true true b e = (refl, e)
@@ -158,3 +168,12 @@ pub any-none : (n : ℕ) (p : ℕ → Bool) → ((i : ℕ) → i < n → p i ≡
 unfolding anyBelow
 any-none zero p h = refl
 any-none (suc n) p h = or-none (anyBelow n p) (p n) (any-none n p (λ i l. h i (omega arith))) (h n (omega arith))
+
+pub any-some : (n : ℕ) (p : ℕ → Bool) → anyBelow n p ≡ true → (i : ℕ) × (i < n) × (p i ≡ true)
+unfolding anyBelow
+any-some zero p e = let z : _≡_ {A = ℕ} 0 1 = cc in absurd (omega arith)
+any-some (suc n) p e = go (or-true (anyBelow n p) (p n) e) (any-some n p)
+  where
+    go : (anyBelow n p ≡ true) ⊎ (p n ≡ true) → (anyBelow n p ≡ true → (i : ℕ) × (i < n) × (p i ≡ true)) → (i : ℕ) × (i < suc n) × (p i ≡ true)
+    go (inl a) ih = let s = ih a in (s .0, omega (arith, s .1), s .2)
+    go (inr a) ih = (n, omega arith, a)

@@ -18,6 +18,7 @@ pub mod States
 pub mod Values
 pub mod Pairing
 pub mod Limits
+pub mod CheckRefusals
 pub mod Stuck
 pub mod Entries
 pub mod Demand3

@@ -1,28 +1,26 @@
 -- What the refusals 9, 10 and 11 say of trees, in tables that they turn away: how many trees reach a state, and how long the longest is.
 use Prim.Native.Nat.{ℕ, zero, suc, _≤_, _<_}
-use mathlib.Core.Path.{_≡_, refl, sym, subst, _∙_}
-use mathlib.Core.Bool.{Bool, true, false, not, _||_}
-use mathlib.Core.List.{List, [], _∷_}
+use mathlib.Core.Path.{_≡_, refl, sym, subst}
+use mathlib.Core.Bool.{Bool, true, false}
+use mathlib.Core.List.{[], _∷_}
 use mathlib.Core.Logic.{_⊎_, inl, inr}
 use native.Mathlib.Omega.{arith}
 use native.Mathlib.Nat.{eq-zero-or-pos}
 use lib.ListN.{length, getD}
-use lib.Dec.{eqb, ltb}
+use lib.Dec.{ltb}
 use borrow.Author.Tests.{ltb-true, ltb-false}
-use Rattle.model.specs.Answers.{Outcome, result, refused}
-use Rattle.model.specs.Choice.{if_then_else_, firstFaulty, anyBelow}
-use Rattle.model.specs.Table.{Table, rowStart, rowNumbered, countAt, howManyRows, rowsOf, howManyEntries, stateAt, tableOf}
+use Rattle.model.specs.Choice.{if_then_else_}
+use Rattle.model.specs.Table.{Table}
 use Rattle.model.specs.Tree.{Tree, serial}
 use Rattle.model.specs.Reach.{Reaches, Accepted}
 use Rattle.model.specs.Count.{sum, Counts, count, total, longest}
 use Rattle.model.specs.Order.{Exactly}
 use Rattle.model.specs.Entries.{noTree}
-use Rattle.model.specs.Check.{isState, cut, tooMany, outOfRange, notBelow, repeated, rowGround, acceptingGround, stateGround, checkWithin, checkOutcome, countLimit}
-use Rattle.model.specs.Limits.{ReachedBy, WithinLimits, BeyondLimits, nine, ten, FirstBeyond, TotalBeyond}
-use Rattle.model.proofs.Choice.{refused-number, refused-place, Decided, clear, faulty, decided}
+use Rattle.model.specs.Check.{stateGround, countLimit}
+use Rattle.model.specs.Limits.{ReachedBy, WithinLimits, BeyondLimits, nine, ten}
 use Rattle.model.proofs.Good.{Sound, Good}
 use Rattle.model.proofs.Counting.{count-counts, total-is}
-use Rattle.model.proofs.Checked.{sound-good, state-good}
+use Rattle.model.proofs.Checked.{state-good}
 use Rattle.model.proofs.Longest.{forest-most, longest-none, longest-tree}
 use Rattle.model.proofs.Exactly.{exactly-map}
 use Rattle.model.proofs.Pairing.{all-counted}
@@ -91,98 +89,6 @@ module _ (T : Table) (good : Good T) where
       go false true x y z p = long (y refl) (z refl) (eq-zero-or-pos (count T q))
       go false false x y z p = absurd (omega arith)
 
--- ---- the refusal of a table
-
--- another refusal behind a test, or behind things taken in turn
-if-other : (b : Bool) (m p k q : ℕ) (o : Outcome) → (m ≡ k → ⊥) → (if b then refused m p else o) ≡ refused k q → o ≡ refused k q
-if-other true m p k q o h e = absurd (h (refused-number e))
-if-other false m p k q o h e = e
-
-first-other : (n k q : ℕ) (g : ℕ → ℕ) (o : Outcome) → ((i : ℕ) → g i ≡ k → ⊥) → firstFaulty n g o ≡ refused k q → ((i : ℕ) → i < n → g i ≡ 0) × (o ≡ refused k q)
-first-other n k q g o h e = go (decided n g o)
-  where
-    go : Decided n g o (firstFaulty n g o) → ((i : ℕ) → i < n → g i ≡ 0) × (o ≡ refused k q)
-    go (clear a d) = (a, sym d ∙ e)
-    go (faulty i l b p d) = absurd (h i (refused-number (sym d ∙ e)))
-
-row-number : (states : ℕ) (rows : List ℕ) (i : ℕ) → rowGround states rows i ≤ 6
-unfolding rowGround
-row-number states rows i =
-    go (cut rows (rowStart rows i)) (tooMany i (countAt rows (rowStart rows i))) (outOfRange states (rowNumbered rows i)) (notBelow (rowNumbered rows i)) (repeated rows i)
-  where
-    go : (a b c d e : Bool) → (if a then 2 else if b then 3 else if c then 4 else if d then 5 else if e then 6 else 0) ≤ 6
-    go true b c d e = omega arith
-    go false true c d e = omega arith
-    go false false true d e = omega arith
-    go false false false true e = omega arith
-    go false false false false true = omega arith
-    go false false false false false = omega arith
-
-entry-number : (states : ℕ) (accepting : List ℕ) (i : ℕ) → acceptingGround states accepting i ≤ 7
-unfolding acceptingGround
-entry-number states accepting i = go (not (isState states (stateAt accepting i)) || anyBelow i (λ j. eqb (stateAt accepting j) (stateAt accepting i)))
-  where
-    go : (a : Bool) → (if a then 7 else 0) ≤ 7
-    go true = omega arith
-    go false = omega arith
-
-module _ (states : ℕ) (rows accepting : List ℕ) where
-  abbrev T : Table
-  T = tableOf states rows accepting
-
-  -- a refusal above 8: the table is good, and its states or its total decide
-  told : (k q : ℕ) → 8 < k → checkOutcome states rows accepting ≡ refused k q
-      → Good T × (firstFaulty states (stateGround countLimit T) (if ltb countLimit (total T) then refused 11 0 else result (total T)) ≡ refused k q)
-  unfolding checkOutcome checkWithin
-  told k q h e =
-      let a = if-other (ltb 256 states) 1 0 k q _ (λ z. omega arith) e in
-      let b = first-other (howManyRows rows) k q (rowGround states rows) _ (λ i z. omega (arith, row-number states rows i)) a in
-      let c = first-other (howManyEntries accepting) k q (acceptingGround states accepting) _ (λ i z. omega (arith, entry-number states accepting i)) (b .1) in
-      let d = if-other (ltb states (howManyEntries accepting)) 8 0 k q _ (λ z. omega arith) (c .1) in
-      (sound-good states rows accepting (b .0) (c .0), d)
-
-  -- 9 and 10, of the first faulty state
-  pub state-told : (number q : ℕ) → 8 < number → number < 11 → checkOutcome states rows accepting ≡ refused number q → FirstBeyond (rowsOf rows) q number
-  state-told number q h m e = let a = told number q h e in go (a .0) (decided states (stateGround countLimit T) _) (a .1)
-    where
-      last : (b : Bool) (n : ℕ) → (if b then refused 11 0 else result n) ≡ refused number q → ⊥
-      last true n d = absurd (omega (arith, m, refused-number d))
-      last false n d = let z : _≡_ {A = ℕ} 0 1 = cc in absurd (omega arith)
-
-      at : (i : ℕ) → i < states → ((j : ℕ) → j < i → stateGround countLimit T j ≡ 0) → 0 < stateGround countLimit T i → Good T → FirstBeyond (rowsOf rows) i (stateGround countLimit T i)
-      at i l b p good = record { before = λ a k. within-limits T good a (omega arith) (b a k); here = beyond-limits T good i l p }
-
-      go : Good T → {o : Outcome} → Decided states (stateGround countLimit T) (if ltb countLimit (total T) then refused 11 0 else result (total T)) o → o ≡ refused number q
-          → FirstBeyond (rowsOf rows) q number
-      go good (clear a d) f = absurd (last (ltb countLimit (total T)) (total T) (sym d ∙ f))
-      go good (faulty i l b p d) f =
-          let z = sym d ∙ f in
-          subst (λ (k : ℕ). FirstBeyond (rowsOf rows) q k) (refused-number z) (subst (λ (j : ℕ). FirstBeyond (rowsOf rows) j (stateGround countLimit T i)) (refused-place z) (at i l b p good))
-
-  -- 11
-  pub total-told : (place : ℕ) → checkOutcome states rows accepting ≡ refused 11 place → TotalBeyond (tableOf states rows accepting) place
-  unfolding stateGround
-  total-told place e = let a = told 11 place (omega arith) e in go (a .0) (first-other states 11 place (stateGround countLimit T) _ (λ q z. omega (arith, state-number q)) (a .1))
-    where
-      state-number : (q : ℕ) → stateGround countLimit T q ≤ 10
-      state-number q = by (ltb countLimit (count T q)) (ltb 4096 (longest T q))
-        where
-          by : (b d : Bool) → (if b then 9 else if d then 10 else 0) ≤ 10
-          by true d = omega arith
-          by false true = omega arith
-          by false false = omega arith
-
-      last : (b : Bool) (n : ℕ) → (if b then refused 11 0 else result n) ≡ refused 11 place → (b ≡ true) × (place ≡ 0)
-      last true n d = (refl, sym (refused-place d))
-      last false n d = let z : _≡_ {A = ℕ} 0 1 = cc in absurd (omega arith)
-
-      go : Good T → ((q : ℕ) → q < states → stateGround countLimit T q ≡ 0) × ((if ltb countLimit (total T) then refused 11 0 else result (total T)) ≡ refused 11 place) → TotalBeyond T place
-      go good p =
-          let l = last (ltb countLimit (total T)) (total T) (p .1) in
-          record {
-            zero-place = l .1;
-            states = λ q k. within-limits T good q k (p .0 q k);
-            many = total T;
-            accepted = subst (Exactly (Accepted T)) (sym (total-is T)) (all-counted T (good .sound) (count T) (count-counts T (good .ordered)) (good .ordered));
-            beyond = ltb-true countLimit (total T) (l .0);
-          }
+  -- the total counts the accepted trees
+  pub total-counted : Exactly (Accepted T) (total T)
+  total-counted = subst (Exactly (Accepted T)) (sym (total-is T)) (all-counted T (good .sound) (count T) counts (good .ordered))

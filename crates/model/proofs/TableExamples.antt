@@ -131,9 +131,11 @@ numbered =
     -- 1 to 11 come first
     ∷ numbers 257 [] [] (256 ∷ []) (refused 1 0)
     ∷ numbers 1 (leaf ++ 1 ∷ []) [] (replicate 4097 1) (refused 2 1)
-    -- 12: before 13
+    ∷ numbers 3 (even ++ row 5 2 (1 ∷ 1 ∷ [])) [] [] (refused 9 2)
+    -- 12: before 13, and of a tree too
     ∷ numbers 1 leaf (0 ∷ []) (replicate 4097 0) (refused 12 0)
     ∷ numbers 1 leaf (0 ∷ []) (replicate 4096 0) (refused 13 0)
+    ∷ numbers 1 leaf (0 ∷ []) (replicate 2049 1 ++ replicate 2049 0) (refused 12 0)
     -- 13: above 255, a bar with no node open, after the root's bar, at the end
     ∷ numbers 1 leaf (0 ∷ []) (255 ∷ 256 ∷ 0 ∷ []) (refused 13 1)
     ∷ numbers 1 leaf (0 ∷ []) (0 ∷ []) (refused 13 0)
@@ -145,6 +147,7 @@ numbered =
     ∷ numbers 1 leaf (0 ∷ []) (2 ∷ 0 ∷ 1 ∷ []) (refused 13 2)
     -- 14: the first bar by its place, not the first node; fewer or more children than arguments; unlisted, the last bar
     ∷ numbers 3 small (1 ∷ []) (9 ∷ 1 ∷ 0 ∷ 9 ∷ 0 ∷ 0 ∷ []) (refused 14 4)
+    ∷ numbers 3 small (1 ∷ []) (2 ∷ 9 ∷ 0 ∷ 9 ∷ 0 ∷ 0 ∷ []) (refused 14 2)
     ∷ numbers 3 small (1 ∷ []) (2 ∷ 0 ∷ []) (refused 14 1)
     ∷ numbers 3 small (1 ∷ []) (2 ∷ 1 ∷ 0 ∷ 1 ∷ 0 ∷ 1 ∷ 0 ∷ 0 ∷ []) (refused 14 7)
     ∷ numbers 3 small (1 ∷ []) (1 ∷ 0 ∷ []) (refused 14 1)
@@ -152,7 +155,7 @@ numbered =
     ∷ []
 
 numbered-hold : map given numbered ≡ map due numbered
-unfolding leaf small numbered checkOutcome checkWithin firstFaulty refuseOn anyBelow rowStart howMany howManyRows firstRows rowsOf sameList rowIs sum product weight stateCounts grow count total largest rowLongest stateLongest longest allBelow cut tooMany outOfRange notBelow repeated rowGround acceptingGround stateGround serialForest serial rowWith statesOf entryOf horner earlierRows rowValue valuesOf numberOf openAfter entryGround endsTooSoon formOr treeOr levelsOf treeFrom reachesNone stuckOr acceptedOr numberTree numberOutcome
+unfolding power two even leaf small numbered checkOutcome checkWithin firstFaulty refuseOn anyBelow rowStart howMany howManyRows firstRows rowsOf sameList rowIs sum product weight stateCounts grow count total largest rowLongest stateLongest longest allBelow cut tooMany outOfRange notBelow repeated rowGround acceptingGround stateGround serialForest serial rowWith statesOf entryOf horner earlierRows rowValue valuesOf numberOf openAfter entryGround endsTooSoon formOr treeOr levelsOf treeFrom reachesNone stuckOr acceptedOr numberTree numberOutcome
 numbered-hold = refl
 
 written : List Example
@@ -168,7 +171,7 @@ written =
     -- 15, before 16; 1 to 11 come first
     ∷ writes 3 small (1 ∷ 0 ∷ []) 3 (replicate 2 7) (refused 15 0) (replicate 2 7)
     ∷ writes 3 small (1 ∷ 0 ∷ []) 4294967296 [] (refused 15 0) []
-    ∷ writes 3 small (1 ∷ 3 ∷ []) 9 (replicate 2 7) (refused 7 1) (replicate 2 7)
+    ∷ writes 3 small (1 ∷ 3 ∷ []) 4294967296 (replicate 2 7) (refused 7 1) (replicate 2 7)
     ∷ []
 
 written-hold : map given written ≡ map due written

@@ -61,7 +61,7 @@ rowLongest c l q r = if eqb (r .target) q && ltb 0 (rowCounts c r) then 2 + sum 
 unfoldable pub stateLongest : List Row → (c l : ℕ → ℕ) → ℕ → ℕ
 stateLongest rows c l q = largest (map (rowLongest c l q) rows)
 
--- how many entries a state's longest tree has, in a good table, within the limits or not (the laws `longest-tree` and `state-told`).
+-- how many entries a state's longest tree has, in a good table, within the limits or not (the laws `longest-tree` and `check-refuses`).
 -- "A state that counts 0 has none.": then this is 0, which is no tree's length (the laws `longest-none` and `none-reaches`)
 unfoldable pub longest : Table → ℕ → ℕ
 longest T q = getD (grow (stateLongest (T .rows) (count T)) (T .states)) q 0

@@ -9,6 +9,7 @@ pub mod Value
 pub mod Order
 pub mod Check
 pub mod Limits
+pub mod CheckRefusals
 pub mod Names
 pub mod Entries
 pub mod Term

@@ -1,4 +1,4 @@
--- What the refusals 9, 10 and 11 say of trees (the laws `state-told` and `total-told`). Assumes nothing: these are definitions.
+-- What the refusals 9, 10 and 11 say of trees (the law `check-refuses`). Assumes nothing: these are definitions.
 use Prim.Native.Nat.{ℕ, _≤_, _<_}
 use mathlib.Core.Path.{_≡_}
 use mathlib.Core.List.{List}
