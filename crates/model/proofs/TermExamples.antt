@@ -4,9 +4,10 @@ use Prim.Native.Nat.{ℕ, zero, suc, _+_, _/_, _%_}
 use Prim.Native.Char.{code}
 use Prim.Native.String.{String, [] as no-text, _∷_ as and-text}
 use mathlib.Core.Path.{_≡_, refl}
-use mathlib.Core.Bool.{Bool}
+use mathlib.Core.Bool.{Bool, false, not}
 use mathlib.Core.List.{List, [], _∷_, _++_, map}
-use lib.ListN.{length, replicate}
+use lib.ListN.{length, getD, replicate}
+use lib.Dec.{eqb}
 use Rattle.model.specs.Answers.{Outcome, result, refused}
 use Rattle.model.specs.Choice.{if_then_else_, refuseOn, firstFaulty, anyBelow}
 use Rattle.model.specs.Table.{sameList}
@@ -14,29 +15,68 @@ use Rattle.model.specs.Tree.{serialForest, serial}
 use Rattle.model.specs.Names.{isLetter, isNameByte, allNameBytes, isName, sameName, linesOf, nameOf, lineWith, symbolOf, isListed, lineGround, namesOr}
 use Rattle.model.specs.Entries.{openAfter, entryGround, endsTooSoon, formOr, treeOr, levelsOf, treeFrom}
 use Rattle.model.specs.Term.{textOfTerms, textOf, step, scan, termOr, run, nameBegins, before, seenFrom, termFrom}
-use Rattle.model.specs.TermOperations.{symbolsOf, namesOf, entriesOf, bytesOf, nameGround, readTermOutcome, symbolGround, writeTermOutcome, readTermList, writeTermList}
+use Rattle.model.specs.TermOperations.{symbolsOf, namesOf, entriesOf, bytesOf, nameGround, readTermWithin, readTermOutcome, symbolGround, writeTermOutcome, readTermList, writeTermList}
 
 -- the bytes of an ASCII text
 unfoldable ascii : String → List ℕ
 ascii no-text = []
 ascii (and-text c cs) = code c ∷ ascii cs
 
--- ---- the bytes of names
+-- ---- the bytes of names and terms
 
 -- of the bytes below n, in order, those with the property
 unfoldable bytesWith : (ℕ → Bool) → ℕ → List ℕ
 bytesWith p zero = []
 bytesWith p (suc n) = bytesWith p n ++ (if p n then n ∷ [] else [])
 
+letters : List ℕ
+letters = ascii "ABCDEFGHIJKLMNOPQRSTUVWXYZabcdefghijklmnopqrstuvwxyz"
+
+nameBytes : List ℕ
+nameBytes = ascii "-0123456789ABCDEFGHIJKLMNOPQRSTUVWXYZ_abcdefghijklmnopqrstuvwxyz"
+
 -- "an ASCII letter"
-letters : bytesWith isLetter 256 ≡ ascii "ABCDEFGHIJKLMNOPQRSTUVWXYZabcdefghijklmnopqrstuvwxyz"
-unfolding ascii bytesWith isLetter
-letters = refl
+letter-bytes : bytesWith isLetter 256 ≡ letters
+unfolding ascii letters bytesWith isLetter
+letter-bytes = refl
 
 -- "letters, digits, `-` or `_`"
-name-bytes : bytesWith isNameByte 256 ≡ ascii "-0123456789ABCDEFGHIJKLMNOPQRSTUVWXYZ_abcdefghijklmnopqrstuvwxyz"
-unfolding ascii bytesWith isLetter isNameByte
+name-bytes : bytesWith isNameByte 256 ≡ nameBytes
+unfolding ascii nameBytes bytesWith isLetter isNameByte
 name-bytes = refl
+
+-- the outcome is a refusal at the place
+abbrev refusedAt : ℕ → Outcome → Bool
+refusedAt place (result n) = false
+refusedAt place (refused number p) = eqb p place
+
+-- the bytes that may stand in a names list between the texts: with any other the first line is faulty
+unfoldable named : (before after : List ℕ) → List ℕ
+named before after = bytesWith (λ b. not (refusedAt 0 (namesOr (before ++ b ∷ after) (result 0)))) 256
+
+-- the bytes with which a term can go on after a text
+unfoldable goesOn : List ℕ → List ℕ
+goesOn text = bytesWith (λ b. not (refusedAt (length text) (termOr (text ++ b ∷ []) (result 0)))) 256
+
+-- a name of 24 bytes
+long : List ℕ
+long = ascii "abcdefghijklmnopqrstu_-9"
+
+-- "an ASCII letter, then letters, digits, `-` or `_`"; "1 to 24 bytes"
+name-places : (named [] (ascii "\n") ≡ letters) × (named [] (ascii "a\n") ≡ letters)
+    × (named (ascii "a") (ascii "\n") ≡ ascii "\n" ++ nameBytes) × (named (ascii "a") (ascii "b\n") ≡ ascii "\n" ++ nameBytes)
+    × (named long (ascii "\n") ≡ ascii "\n")
+unfolding ascii letters nameBytes long bytesWith named refuseOn firstFaulty anyBelow sameList isLetter isNameByte allNameBytes isName sameName linesOf lineGround namesOr
+name-places = (refl, refl, refl, refl, refl)
+
+-- "A term is a name, or a name followed by `(`, one or more terms with `,` between them, and `)`. It holds no blanks": where a name is due; in
+-- a name, with brackets open or not; where a name has 24 bytes; and after `)`
+term-places : (goesOn [] ≡ letters) × (goesOn (ascii "a(") ≡ letters) × (goesOn (ascii "a(a,") ≡ letters)
+    × (goesOn (ascii "a") ≡ ascii "(" ++ nameBytes) × (goesOn (ascii "a(a") ≡ ascii "()," ++ nameBytes)
+    × (goesOn long ≡ ascii "(") × (goesOn (ascii "a(" ++ long) ≡ ascii "(),")
+    × (goesOn (ascii "a(a)") ≡ []) × (goesOn (ascii "a(a(a)") ≡ ascii "),")
+unfolding ascii letters nameBytes long bytesWith goesOn isLetter isNameByte step scan termOr
+term-places = (refl, refl, refl, refl, refl, refl, refl, refl, refl)
 
 -- ---- answers and lists
 
@@ -61,10 +101,6 @@ ab = ascii "a\nb\n"
 two : List ℕ
 two = 7 ∷ 7 ∷ []
 
--- a name of 24 bytes
-long : List ℕ
-long = ascii "abcdefghijklmnopqrstuv-9"
-
 examples : List Example
 examples =
     -- lists longer than needed, as long, and shorter; an empty one
@@ -77,6 +113,9 @@ examples =
     ∷ writes ab (2 ∷ 2 ∷ 1 ∷ 0 ∷ 0 ∷ 1 ∷ 0 ∷ 0 ∷ []) (replicate 9 7) (result 9) (ascii "b(b(a),a)")
     ∷ writes ab (1 ∷ 1 ∷ 0 ∷ 2 ∷ 0 ∷ 0 ∷ []) (replicate 5 7) (refused 24 6) (replicate 5 7)
     ∷ writes ab (1 ∷ 0 ∷ []) [] (refused 24 1) []
+    -- capital letters are others; a name that begins another one
+    ∷ reads (ascii "a\nA\naB_9-\naB\n") (ascii "A(aB,aB_9-)") (replicate 6 7) (result 6) (2 ∷ 4 ∷ 0 ∷ 3 ∷ 0 ∷ 0 ∷ [])
+    ∷ writes (ascii "a\nA\naB_9-\naB\n") (2 ∷ 4 ∷ 0 ∷ 3 ∷ 0 ∷ 0 ∷ []) (replicate 11 7) (result 11) (ascii "A(aB,aB_9-)")
     -- 19: the text ends too soon; a byte with which no term can go on
     ∷ reads ab [] two (refused 19 0) two
     ∷ reads ab (ascii "a(") two (refused 19 2) two
@@ -89,7 +128,12 @@ examples =
     ∷ reads ab (ascii "a)b") two (refused 19 1) two
     ∷ reads ab (ascii "a(b)(b)") two (refused 19 4) two
     ∷ reads ab (ascii "a a") two (refused 19 1) two
+    ∷ reads ab (ascii " a") two (refused 19 0) two
+    ∷ reads ab (ascii "a(b, b)") two (refused 19 4) two
+    ∷ reads ab (ascii "a\n") two (refused 19 1) two
     ∷ reads ab (ascii "1a") two (refused 19 0) two
+    ∷ reads ab (ascii "-a") two (refused 19 0) two
+    ∷ reads ab (ascii "_a") two (refused 19 0) two
     ∷ reads ab (ascii "a\0") two (refused 19 1) two
     -- 20: the earliest name that is not listed
     ∷ reads ab (ascii "c") two (refused 20 0) two
@@ -105,6 +149,11 @@ examples =
     ∷ reads [] (ascii "a") two (refused 17 0) two
     ∷ reads (ascii "\n") (ascii "a") two (refused 17 0) two
     ∷ reads (ascii "-\na\n") (ascii "a") two (refused 17 0) two
+    ∷ reads (ascii "_a\na\n") (ascii "a") two (refused 17 0) two
+    ∷ reads (ascii "1a\na\n") (ascii "a") two (refused 17 0) two
+    ∷ reads (ascii "a\nb\r\n") (ascii "a") two (refused 17 1) two
+    ∷ reads (ascii "a") (ascii "a") two (refused 17 0) two
+    ∷ reads (ascii "\na\n") (ascii "a") two (refused 17 0) two
     ∷ writes (ascii "a\n\n") (1 ∷ 0 ∷ []) two (refused 17 1) two
     ∷ writes (ascii "a\nb") (1 ∷ 0 ∷ []) two (refused 17 1) two
     ∷ reads (ascii "a\nb\na\n") (ascii "a") two (refused 17 2) two
@@ -128,17 +177,25 @@ term-examples = refl
 
 -- ---- limits from both sides, with a later ground that holds too
 
+-- a text so many times
+unfoldable times : ℕ → List ℕ → List ℕ
+times zero text = []
+times (suc n) text = text ++ times n text
+
 -- so many names of two letters
 unfoldable manyNames : ℕ → List ℕ
 manyNames zero = []
-manyNames (suc n) = manyNames n ++ (97 + n / 26) ∷ (97 + n % 26) ∷ ascii "\n"
+manyNames (suc n) = manyNames n ++ small (n / 26) ∷ small (n % 26) ∷ ascii "\n"
+  where
+    small : ℕ → ℕ
+    small k = getD (ascii "abcdefghijklmnopqrstuvwxyz") k 0
 
 limits : List Example
 limits =
     -- a text of 65,537 bytes, and of 65,536
-    reads [] (replicate 65537 97) two (refused 17 0) two
-    ∷ reads ab (replicate 65537 97) two (refused 18 0) two
-    ∷ reads ab (replicate 65536 97) two (refused 19 24) two
+    reads [] (times 65537 (ascii "a")) two (refused 17 0) two
+    ∷ reads ab (times 65537 (ascii "a")) two (refused 18 0) two
+    ∷ reads ab (times 65536 (ascii "a")) two (refused 19 24) two
     -- a list of 4,097 entries, and of 4,096
     ∷ writes [] (replicate 4097 0) two (refused 17 0) two
     ∷ writes ab (replicate 4097 0) two (refused 12 0) two
@@ -149,5 +206,18 @@ limits =
     ∷ []
 
 limit-examples : map given limits ≡ map due limits
-unfolding limits manyNames ascii ab two refuseOn firstFaulty anyBelow sameList serialForest serial isLetter isNameByte allNameBytes isName sameName linesOf lineWith symbolOf isListed lineGround namesOr openAfter entryGround formOr treeOr textOfTerms textOf step scan termOr run nameBegins before seenFrom termFrom symbolsOf entriesOf nameGround readTermOutcome writeTermOutcome readTermList writeTermList
+unfolding limits times manyNames ascii ab two refuseOn firstFaulty anyBelow sameList serialForest serial isLetter isNameByte allNameBytes isName sameName linesOf lineWith symbolOf isListed lineGround namesOr openAfter entryGround formOr treeOr textOfTerms textOf step scan termOr run nameBegins before seenFrom termFrom symbolsOf entriesOf nameGround readTermOutcome writeTermOutcome readTermList writeTermList
 limit-examples = refl
+
+-- 21: a tree of six entries, with a limit for the entries. `readTermOutcome` is the use at 4,096, where a text that is refused has 4,097 bytes
+-- or more; that this is the limit follows from that of 12 by `written-reads` and `read-writes`
+abbrev within : (limit room : ℕ) → List ℕ → Outcome
+within limit room text = readTermWithin limit ab text room
+
+entry-limit :
+    -- the limit is met; it is passed
+    (within 6 6 (ascii "a(a,a)") ≡ result 6) × (within 5 6 (ascii "a(a,a)") ≡ refused 21 0)
+    -- 21 comes before 22, and after 20
+    × (within 6 5 (ascii "a(a,a)") ≡ refused 22 6) × (within 5 5 (ascii "a(a,a)") ≡ refused 21 0) × (within 5 5 (ascii "a(a,c)") ≡ refused 20 4)
+unfolding ascii ab refuseOn firstFaulty anyBelow sameList serialForest serial isLetter isNameByte allNameBytes isName sameName linesOf lineWith symbolOf isListed lineGround namesOr textOfTerms textOf step scan termOr run nameBegins before seenFrom termFrom symbolsOf entriesOf nameGround
+entry-limit = (refl, refl, refl, refl, refl)
