@@ -18,13 +18,14 @@ use Rattle.model.specs.Entries.{formOr, treeOr}
 use Rattle.model.specs.Term.{Terms, none, term, alone, textOfTerms, textOf, AllNames, IsTerm, Scan, passes, breaksAt, breakOr, scan, due, termOr, run, nameBegins, nameAt}
 use Rattle.model.specs.TermOperations.{AllListed, entriesOf, bytesOf, nameGround, readTermOutcome, symbolGround, writeTermOutcome}
 use Rattle.model.specs.Place.{CanGoOn, StopsAt}
-use Rattle.model.specs.TermRefusals.{firstLines, FaultyLine, Placed, namesFrom, FirstUnlisted, FirstUnnamed, ReadRefused, read17, read18, read19, read20, read21, read22, WriteRefused, write17, write12, write13, write23, write24, ReadRefuses, WriteRefuses, ReadRefusedOnce, WriteRefusedOnce}
+use Rattle.model.specs.TermRefusals.{firstLines, FaultyLine, Placed, namesFrom, FirstUnlisted, FirstUnnamed, ReadRefused, read17, read18, read19, read20, read21, read22, WriteRefused, write17, write12, write13, write23, write24, ReadRefuses, WriteRefuses, ReadRefusedOnce, WriteRefusedOnce, ReadElse, WriteElse}
 use Rattle.model.proofs.Choice.{if-no, if-zero, not-both, no-fault, no-fault-back, refused-number, refused-place, Decided, clear, faulty, decided}
 use Rattle.model.proofs.Bytes.{open-no-byte, close-no-byte, comma-no-byte, end-no-byte, byte-first, byte-others, name-parts, name-bytes, NoByte, run-all}
 use Rattle.model.proofs.Entries.{form-place, tree-or-taken, tree-or-back}
 use Rattle.model.proofs.Scan.{bracketed, following, text-after, whole-term, scan-place, term-or-taken, term-or-back}
 use Rattle.model.proofs.Names.{Sound, SoundLine, line-clear, clear-line, sound-line, lines-sound, some-lines, names-list, list-sound, names-taken, names-back}
 use Rattle.model.proofs.Listed.{brackets-stop, comma-stop, begins, begins-next, begins-first, listed-names, names-listed, symbol-low, low-symbol, terms-length}
+use Rattle.model.proofs.Inverse.{read-back, write-back}
 
 -- ---- one ground after another
 
@@ -33,6 +34,11 @@ if-refused : (b : Bool) (m q k p : ℕ) (o : Outcome) → (if b then refused m q
     → ((b ≡ true) × (k ≡ m) × (p ≡ q)) ⊎ ((b ≡ false) × (o ≡ refused k p))
 if-refused true m q k p o e = inl (refl, sym (refused-number e), sym (refused-place e))
 if-refused false m q k p o e = inr (refl, e)
+
+-- an answer that is no refusal, and no result but one: it is that result
+result-only : (o : Outcome) (n : ℕ) → ((t : ℕ) → o ≡ result t → t ≡ n) → ((k p : ℕ) → o ≡ refused k p → ⊥) → o ≡ result n
+result-only (result t) n f h = ap result (f t refl)
+result-only (refused k p) n f h = absurd (h k p refl)
 
 -- an answer that is no result, and no refusal but one: it is that refusal
 refused-only : (o : Outcome) (k p : ℕ) → ((t : ℕ) → o ≡ result t → ⊥) → ((m q : ℕ) → o ≡ refused m q → (m ≡ k) × (q ≡ p)) → o ≡ refused k p
@@ -575,6 +581,10 @@ read-refused-once names text room k p m q f g =
     let e = sym (ground-read names text room k p f) ∙ ground-read names text room m q g in
     (refused-number e, refused-place e)
 
+pub read-else : ReadElse
+read-else names text room h =
+    result-only (readTermOutcome names text room) _ (λ t e. read-back names text room t e .1) (λ k p e. h k p (read-ground names text room k p e))
+
 -- a refusal has its ground
 write-ground : (names tree : List ℕ) (room k p : ℕ) → writeTermOutcome names tree room ≡ refused k p → WriteRefused names tree room k p
 unfolding writeTermOutcome
@@ -642,3 +652,7 @@ pub write-refused-once : WriteRefusedOnce
 write-refused-once names tree room k p m q f g =
     let e = sym (ground-write names tree room k p f) ∙ ground-write names tree room m q g in
     (refused-number e, refused-place e)
+
+pub write-else : WriteElse
+write-else names tree room h =
+    result-only (writeTermOutcome names tree room) _ (λ t e. write-back names tree room t e .1) (λ k p e. h k p (write-ground names tree room k p e))

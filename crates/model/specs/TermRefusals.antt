@@ -6,7 +6,7 @@ use mathlib.Core.Logic.{_⊎_, _↔_}
 use mathlib.Core.List.{List, [], _∷_, _++_}
 use lib.ListN.{length, getD}
 use lib.Dec.{eqb}
-use Rattle.model.specs.Answers.{refused}
+use Rattle.model.specs.Answers.{result, refused}
 use Rattle.model.specs.Choice.{if_then_else_}
 use Rattle.model.specs.Tree.{WellFormed}
 use Rattle.model.specs.Names.{IsNamesList, howManyNames, isListed}
@@ -101,3 +101,14 @@ ReadRefusedOnce =
 abbrev pub WriteRefusedOnce : Type 0
 WriteRefusedOnce =
     (names tree : List ℕ) (room k p m q : ℕ) → WriteRefused names tree room k p → WriteRefused names tree room m q → (k ≡ m) × (p ≡ q)
+
+-- "Where no ground stated below holds, the answer is the result."
+abbrev pub ReadElse : Type 0
+ReadElse =
+    (names text : List ℕ) (room : ℕ) → ((number place : ℕ) → ReadRefused names text room number place → ⊥)
+    → readTermOutcome names text room ≡ result (length (entriesOf names text))
+
+abbrev pub WriteElse : Type 0
+WriteElse =
+    (names tree : List ℕ) (room : ℕ) → ((number place : ℕ) → WriteRefused names tree room number place → ⊥)
+    → writeTermOutcome names tree room ≡ result (length (bytesOf names tree))
