@@ -489,89 +489,79 @@ short-place room needed m k p e = go (if-refused (ltb room needed) m needed k p 
     go (inl x) = (x .1, x .2, omega (arith, x .2, ltb-true room needed (x .0)))
     go (inr x) = let y = x .1 in let z : _≡_ {A = ℕ} 0 1 = cc in absurd (omega arith)
 
--- a refusal has its ground
-read-ground : (names text : List ℕ) (room k p : ℕ) → readTermOutcome names text room ≡ refused k p → ReadRefused names text room k p
-unfolding readTermOutcome
-read-ground names text room k p e = by-names (names-place names k p _ e)
-  where
-    needed : ℕ
-    needed = length (entriesOf names text)
+module _ (names text : List ℕ) (room : ℕ) where
+  -- reading a term: what follows 20, what follows 19, and what follows 17
+  abbrev entries : ℕ
+  entries = length (entriesOf names text)
 
-    fits : Outcome
-    fits = if ltb 4096 needed then refused 21 0 else if ltb room needed then refused 22 needed else result needed
+  abbrev entered : Outcome
+  entered = if ltb 4096 entries then refused 21 0 else if ltb room entries then refused 22 entries else result entries
 
-    by-fits : IsNamesList names → length text ≤ 65536 → (w : IsTerm text) → AllListed names (alone (w .is))
-        → ((ltb 4096 needed ≡ true) × (k ≡ 21) × (p ≡ 0)) ⊎ ((ltb 4096 needed ≡ false) × ((if ltb room needed then refused 22 needed else result needed) ≡ refused k p))
-        → ReadRefused names text room k p
-    by-fits n l w a (inl x) = read21 (x .1) (x .2) n l w a (ltb-true 4096 needed (x .0))
-    by-fits n l w a (inr x) =
-        let s = short-place room needed 22 k p (x .1) in
-        read22 (s .0) (s .1) (record { list = n; short = l; well = w; listed = a; few = ltb-false 4096 needed (x .0) }) (s .2)
+  abbrev listing : Outcome
+  listing = firstFaulty (length text) (nameGround names text) entered
 
-    by-listed : IsNamesList names → length text ≤ 65536 → (w : IsTerm text)
-        → ((k ≡ 20) × FirstUnlisted names (namesFrom 0 (alone (w .is))) p) ⊎ (AllListed names (alone (w .is)) × (fits ≡ refused k p)) → ReadRefused names text room k p
-    by-listed n l w (inl x) = read20 (x .0) n l w (x .1)
-    by-listed n l w (inr x) = by-fits n l w (x .0) (if-refused (ltb 4096 needed) 21 0 k p _ (x .1))
+  abbrev reading : Outcome
+  reading = if ltb 65536 (length text) then refused 18 0 else termOr text listing
 
-    by-term : IsNamesList names → length text ≤ 65536
-        → ((k ≡ 19) × StopsAt IsTerm text p) ⊎ (IsTerm text × (firstFaulty (length text) (nameGround names text) fits ≡ refused k p)) → ReadRefused names text room k p
-    by-term n l (inl x) = read19 (x .0) n l (x .1)
-    by-term n l (inr x) = by-listed n l (x .0) (listed-place names text (x .0) k p fits (x .1))
+  -- a refusal has its ground
+  read-ground : (k p : ℕ) → readTermOutcome names text room ≡ refused k p → ReadRefused names text room k p
+  unfolding readTermOutcome
+  read-ground k p e = by-names (names-place names k p reading e)
+    where
+      by-entries : IsNamesList names → length text ≤ 65536 → (w : IsTerm text) → AllListed names (alone (w .is))
+          → ((ltb 4096 entries ≡ true) × (k ≡ 21) × (p ≡ 0)) ⊎ ((ltb 4096 entries ≡ false) × ((if ltb room entries then refused 22 entries else result entries) ≡ refused k p))
+          → ReadRefused names text room k p
+      by-entries n l w a (inl x) = read21 (x .1) (x .2) n l w a (ltb-true 4096 entries (x .0))
+      by-entries n l w a (inr x) =
+          let s = short-place room entries 22 k p (x .1) in
+          read22 (s .0) (s .1) (record { list = n; short = l; well = w; listed = a; few = ltb-false 4096 entries (x .0) }) (s .2)
 
-    by-length : IsNamesList names
-        → ((ltb 65536 (length text) ≡ true) × (k ≡ 18) × (p ≡ 0))
-        ⊎ ((ltb 65536 (length text) ≡ false) × (termOr text (firstFaulty (length text) (nameGround names text) fits) ≡ refused k p))
-        → ReadRefused names text room k p
-    by-length n (inl x) = read18 (x .1) (x .2) n (ltb-true 65536 (length text) (x .0))
-    by-length n (inr x) = by-term n (ltb-false 65536 (length text) (x .0)) (term-place text k p _ (x .1))
+      by-listed : IsNamesList names → length text ≤ 65536 → (w : IsTerm text)
+          → ((k ≡ 20) × FirstUnlisted names (namesFrom 0 (alone (w .is))) p) ⊎ (AllListed names (alone (w .is)) × (entered ≡ refused k p)) → ReadRefused names text room k p
+      by-listed n l w (inl x) = read20 (x .0) n l w (x .1)
+      by-listed n l w (inr x) = by-entries n l w (x .0) (if-refused (ltb 4096 entries) 21 0 k p _ (x .1))
 
-    by-names : ((k ≡ 17) × FaultyLine names p)
-        ⊎ (IsNamesList names × ((if ltb 65536 (length text) then refused 18 0 else termOr text (firstFaulty (length text) (nameGround names text) fits)) ≡ refused k p))
-        → ReadRefused names text room k p
-    by-names (inl x) = read17 (x .0) (x .1)
-    by-names (inr x) = by-length (x .0) (if-refused (ltb 65536 (length text)) 18 0 k p _ (x .1))
+      by-term : IsNamesList names → length text ≤ 65536 → ((k ≡ 19) × StopsAt IsTerm text p) ⊎ (IsTerm text × (listing ≡ refused k p)) → ReadRefused names text room k p
+      by-term n l (inl x) = read19 (x .0) n l (x .1)
+      by-term n l (inr x) = by-listed n l (x .0) (listed-place names text (x .0) k p entered (x .1))
 
--- a ground has its refusal
-ground-read : (names text : List ℕ) (room k p : ℕ) → ReadRefused names text room k p → readTermOutcome names text room ≡ refused k p
-unfolding readTermOutcome
-ground-read names text room k p g = go g
-  where
-    needed : ℕ
-    needed = length (entriesOf names text)
+      by-length : IsNamesList names → ((ltb 65536 (length text) ≡ true) × (k ≡ 18) × (p ≡ 0)) ⊎ ((ltb 65536 (length text) ≡ false) × (termOr text listing ≡ refused k p))
+          → ReadRefused names text room k p
+      by-length n (inl x) = read18 (x .1) (x .2) n (ltb-true 65536 (length text) (x .0))
+      by-length n (inr x) = by-term n (ltb-false 65536 (length text) (x .0)) (term-place text k p listing (x .1))
 
-    -- past 17; past 18; past 19; past 20; past 21
-    fits : Outcome
-    fits = if ltb 4096 needed then refused 21 0 else if ltb room needed then refused 22 needed else result needed
+      by-names : ((k ≡ 17) × FaultyLine names p) ⊎ (IsNamesList names × (reading ≡ refused k p)) → ReadRefused names text room k p
+      by-names (inl x) = read17 (x .0) (x .1)
+      by-names (inr x) = by-length (x .0) (if-refused (ltb 65536 (length text)) 18 0 k p _ (x .1))
 
-    by-listed : Outcome
-    by-listed = firstFaulty (length text) (nameGround names text) fits
+  -- a ground has its refusal
+  ground-read : (k p : ℕ) → ReadRefused names text room k p → readTermOutcome names text room ≡ refused k p
+  unfolding readTermOutcome
+  ground-read k p g = by g
+    where
+      past-17 : IsNamesList names → namesOr names reading ≡ reading
+      past-17 n = names-taken names (list-sound names n) reading
 
-    by-length : Outcome
-    by-length = if ltb 65536 (length text) then refused 18 0 else termOr text by-listed
+      past-18 : IsNamesList names → length text ≤ 65536 → namesOr names reading ≡ termOr text listing
+      past-18 n l = past-17 n ∙ if-no (ltb 65536 (length text)) _ _ (le-ltb 65536 (length text) l)
 
-    past-17 : IsNamesList names → namesOr names by-length ≡ by-length
-    past-17 n = names-taken names (list-sound names n) by-length
+      past-19 : IsNamesList names → length text ≤ 65536 → IsTerm text → namesOr names reading ≡ listing
+      past-19 n l w = past-18 n l ∙ term-or-taken text w listing
 
-    past-18 : IsNamesList names → length text ≤ 65536 → namesOr names by-length ≡ termOr text by-listed
-    past-18 n l = past-17 n ∙ if-no (ltb 65536 (length text)) _ _ (le-ltb 65536 (length text) l)
+      past-20 : IsNamesList names → length text ≤ 65536 → (w : IsTerm text) → AllListed names (alone (w .is)) → namesOr names reading ≡ entered
+      past-20 n l w a = past-19 n l w ∙ no-fault (length text) (nameGround names text) entered (names-listed names text w a)
 
-    past-19 : IsNamesList names → length text ≤ 65536 → IsTerm text → namesOr names by-length ≡ by-listed
-    past-19 n l w = past-18 n l ∙ term-or-taken text w by-listed
-
-    past-20 : IsNamesList names → length text ≤ 65536 → (w : IsTerm text) → AllListed names (alone (w .is)) → namesOr names by-length ≡ fits
-    past-20 n l w a = past-19 n l w ∙ no-fault (length text) (nameGround names text) fits (names-listed names text w a)
-
-    go : ReadRefused names text room k p → namesOr names by-length ≡ refused k p
-    go (read17 e f) = rw e (names-refused names p f by-length)
-    go (read18 e d n l) = rw e (past-17 n ∙ if-place (ltb 65536 (length text)) 18 0 p _ (lt-ltb 65536 (length text) l) d)
-    go (read19 e n l s) = rw e (past-18 n l ∙ term-refused text p s by-listed)
-    go (read20 e n l w f) = rw e (past-19 n l w ∙ listed-refused names text w p f fits)
-    go (read21 e d n l w a m) = rw e (past-20 n l w a ∙ if-place (ltb 4096 needed) 21 0 p _ (lt-ltb 4096 needed m) d)
-    go (read22 e d r l) =
-        rw e
-        (past-20 (r .list) (r .short) (r .well) (r .listed)
-        ∙ if-no (ltb 4096 needed) _ _ (le-ltb 4096 needed (r .few))
-        ∙ if-place (ltb room needed) 22 needed p _ (lt-ltb room needed (omega arith)) d)
+      by : ReadRefused names text room k p → namesOr names reading ≡ refused k p
+      by (read17 e f) = rw e (names-refused names p f reading)
+      by (read18 e d n l) = rw e (past-17 n ∙ if-place (ltb 65536 (length text)) 18 0 p _ (lt-ltb 65536 (length text) l) d)
+      by (read19 e n l s) = rw e (past-18 n l ∙ term-refused text p s listing)
+      by (read20 e n l w f) = rw e (past-19 n l w ∙ listed-refused names text w p f entered)
+      by (read21 e d n l w a m) = rw e (past-20 n l w a ∙ if-place (ltb 4096 entries) 21 0 p _ (lt-ltb 4096 entries m) d)
+      by (read22 e d r l) =
+          rw e
+          (past-20 (r .list) (r .short) (r .well) (r .listed)
+          ∙ if-no (ltb 4096 entries) _ _ (le-ltb 4096 entries (r .few))
+          ∙ if-place (ltb room entries) 22 entries p _ (lt-ltb room entries (omega arith)) d)
 
 pub read-refuses : ReadRefuses
 read-refuses names text room k p = (read-ground names text room k p, ground-read names text room k p)
@@ -585,65 +575,60 @@ pub read-else : ReadElse
 read-else names text room h =
     result-only (readTermOutcome names text room) _ (λ t e. read-back names text room t e .1) (λ k p e. h k p (read-ground names text room k p e))
 
--- a refusal has its ground
-write-ground : (names tree : List ℕ) (room k p : ℕ) → writeTermOutcome names tree room ≡ refused k p → WriteRefused names tree room k p
-unfolding writeTermOutcome
-write-ground names tree room k p e = by-names (names-place names k p _ e)
-  where
-    needed : ℕ
-    needed = length (bytesOf names tree)
+module _ (names tree : List ℕ) (room : ℕ) where
+  -- writing a term: what follows 23, and what follows 13
+  abbrev bytes : ℕ
+  bytes = length (bytesOf names tree)
 
-    fits : Outcome
-    fits = if ltb room needed then refused 24 needed else result needed
+  abbrev lettered : Outcome
+  lettered = if ltb room bytes then refused 24 bytes else result bytes
 
-    by-named : IsNamesList names → length tree ≤ 4096 → WellFormed tree
-        → ((k ≡ 23) × FirstUnnamed names tree p) ⊎ (((i : ℕ) → i < length tree → getD tree i 0 ≤ howManyNames names) × (fits ≡ refused k p))
-        → WriteRefused names tree room k p
-    by-named n l w (inl x) = write23 (x .0) n l w (x .1)
-    by-named n l w (inr x) =
-        let s = short-place room needed 24 k p (x .1) in
-        write24 (s .0) (s .1) (record { list = n; few = l; well = w; named = x .0 }) (s .2)
+  abbrev naming : Outcome
+  naming = firstFaulty (length tree) (symbolGround names tree) lettered
 
-    by-tree : IsNamesList names → TreePlace tree k p (firstFaulty (length tree) (symbolGround names tree) fits) → WriteRefused names tree room k p
-    by-tree n (long x y l) = write12 x y n l
-    by-tree n (no-tree x l s) = write13 x n l s
-    by-tree n (after l w x) = by-named n l w (named-place names tree k p fits x)
+  -- a refusal has its ground
+  write-ground : (k p : ℕ) → writeTermOutcome names tree room ≡ refused k p → WriteRefused names tree room k p
+  unfolding writeTermOutcome
+  write-ground k p e = by-names (names-place names k p _ e)
+    where
+      by-named : IsNamesList names → length tree ≤ 4096 → WellFormed tree
+          → ((k ≡ 23) × FirstUnnamed names tree p) ⊎ (((i : ℕ) → i < length tree → getD tree i 0 ≤ howManyNames names) × (lettered ≡ refused k p))
+          → WriteRefused names tree room k p
+      by-named n l w (inl x) = write23 (x .0) n l w (x .1)
+      by-named n l w (inr x) =
+          let s = short-place room bytes 24 k p (x .1) in
+          write24 (s .0) (s .1) (record { list = n; few = l; well = w; named = x .0 }) (s .2)
 
-    by-names : ((k ≡ 17) × FaultyLine names p) ⊎ (IsNamesList names × (treeOr tree (firstFaulty (length tree) (symbolGround names tree) fits) ≡ refused k p))
-        → WriteRefused names tree room k p
-    by-names (inl x) = write17 (x .0) (x .1)
-    by-names (inr x) = by-tree (x .0) (tree-place tree k p _ (x .1))
+      by-tree : IsNamesList names → TreePlace tree k p naming → WriteRefused names tree room k p
+      by-tree n (long x y l) = write12 x y n l
+      by-tree n (no-tree x l s) = write13 x n l s
+      by-tree n (after l w x) = by-named n l w (named-place names tree k p lettered x)
 
--- a ground has its refusal
-ground-write : (names tree : List ℕ) (room k p : ℕ) → WriteRefused names tree room k p → writeTermOutcome names tree room ≡ refused k p
-unfolding writeTermOutcome
-ground-write names tree room k p g = go g
-  where
-    needed : ℕ
-    needed = length (bytesOf names tree)
+      by-names : ((k ≡ 17) × FaultyLine names p) ⊎ (IsNamesList names × (treeOr tree naming ≡ refused k p)) → WriteRefused names tree room k p
+      by-names (inl x) = write17 (x .0) (x .1)
+      by-names (inr x) = by-tree (x .0) (tree-place tree k p naming (x .1))
 
-    fits : Outcome
-    fits = if ltb room needed then refused 24 needed else result needed
+  -- a ground has its refusal
+  ground-write : (k p : ℕ) → WriteRefused names tree room k p → writeTermOutcome names tree room ≡ refused k p
+  unfolding writeTermOutcome
+  ground-write k p g = by g
+    where
+      past-17 : IsNamesList names → namesOr names (treeOr tree naming) ≡ treeOr tree naming
+      past-17 n = names-taken names (list-sound names n) (treeOr tree naming)
 
-    by-named : Outcome
-    by-named = firstFaulty (length tree) (symbolGround names tree) fits
+      past-13 : IsNamesList names → length tree ≤ 4096 → WellFormed tree → namesOr names (treeOr tree naming) ≡ naming
+      past-13 n l w = past-17 n ∙ tree-or-taken tree w l naming
 
-    past-17 : IsNamesList names → namesOr names (treeOr tree by-named) ≡ treeOr tree by-named
-    past-17 n = names-taken names (list-sound names n) (treeOr tree by-named)
-
-    past-13 : IsNamesList names → length tree ≤ 4096 → WellFormed tree → namesOr names (treeOr tree by-named) ≡ by-named
-    past-13 n l w = past-17 n ∙ tree-or-taken tree w l by-named
-
-    go : WriteRefused names tree room k p → namesOr names (treeOr tree by-named) ≡ refused k p
-    go (write17 e f) = rw e (names-refused names p f (treeOr tree by-named))
-    go (write12 e d n l) = rw e (past-17 n ∙ tree-long tree p l d by-named)
-    go (write13 e n l s) = rw e (past-17 n ∙ tree-refused tree p l s by-named)
-    go (write23 e n l w f) = rw e (past-13 n l w ∙ named-refused names tree p f fits)
-    go (write24 e d w l) =
-        rw e
-        (past-13 (w .list) (w .few) (w .well)
-        ∙ no-fault (length tree) (symbolGround names tree) fits (λ i m. low-symbol names tree i (w .named i m))
-        ∙ if-place (ltb room needed) 24 needed p _ (lt-ltb room needed (omega arith)) d)
+      by : WriteRefused names tree room k p → namesOr names (treeOr tree naming) ≡ refused k p
+      by (write17 e f) = rw e (names-refused names p f (treeOr tree naming))
+      by (write12 e d n l) = rw e (past-17 n ∙ tree-long tree p l d naming)
+      by (write13 e n l s) = rw e (past-17 n ∙ tree-refused tree p l s naming)
+      by (write23 e n l w f) = rw e (past-13 n l w ∙ named-refused names tree p f lettered)
+      by (write24 e d w l) =
+          rw e
+          (past-13 (w .list) (w .few) (w .well)
+          ∙ no-fault (length tree) (symbolGround names tree) lettered (λ i m. low-symbol names tree i (w .named i m))
+          ∙ if-place (ltb room bytes) 24 bytes p _ (lt-ltb room bytes (omega arith)) d)
 
 pub write-refuses : WriteRefuses
 write-refuses names tree room k p = (write-ground names tree room k p, ground-write names tree room k p)
