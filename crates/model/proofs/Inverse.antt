@@ -1,18 +1,18 @@
--- What reading and writing a term take, and that they are inverse on what both take.
+-- What reading and writing a term take, that they are inverse on what both take, and what the lent lists then hold.
 use Prim.Native.Nat.{ℕ, _≤_}
 use mathlib.Core.Path.{_≡_, refl, ap, sym, subst, _∙_}
 use mathlib.Core.List.{List, _++_}
 use native.Mathlib.Omega.{arith}
-use lib.ListN.{length, take, drop, length-append, length-drop}
-use lib.Seq.{take-at, drop-at}
+use lib.ListN.{length, take, drop}
 use lib.Dec.{ltb}
 use borrow.Author.Tests.{ltb-false, le-ltb}
-use Rattle.model.specs.Answers.{Outcome, result, refused, lentAfter}
+use Rattle.model.specs.Answers.{Outcome, result, lentAfter}
 use Rattle.model.specs.Tree.{Forest, Tree, empty, node, only, serial, SymbolsInRange, WellFormed}
 use Rattle.model.specs.Term.{Terms, Term, none, term, alone, textOf, AllNames, IsTerm, termFrom}
 use Rattle.model.specs.TermOperations.{symbolsOf, namesOf, treeOfTerm, termOfTree, AllListed, entriesOf, bytesOf, nameGround, readTermOutcome, symbolGround, writeTermOutcome, readTermList, writeTermList}
-use Rattle.model.specs.Inverse.{Writable, WriteTaken, Readable, ReadTaken, WrittenReads, ReadWrites, Lent, ReadLent, WriteLent}
+use Rattle.model.specs.Inverse.{Writable, WriteTaken, Readable, ReadTaken, WrittenReads, ReadWrites, ReadLent, WriteLent}
 use Rattle.model.proofs.Choice.{if-no, if-result, no-fault, no-fault-back}
+use Rattle.model.proofs.Writing.{lent-all, lent-front, lent-told}
 use Rattle.model.proofs.Entries.{tree-from, tree-or-taken, tree-or-back}
 use Rattle.model.proofs.Scan.{term-from, term-text, term-or-taken, term-or-back}
 use Rattle.model.proofs.Names.{Sound, names-list, list-sound, names-taken, names-back, symbol-of-name, name-of-symbol, name-is}
@@ -147,30 +147,9 @@ pub read-exactly : ReadTaken
 read-exactly names text room n =
     (read-back names text room n, λ p. read-taken names text room (p .0) (omega (arith, p .1, p .2)) ∙ ap result (sym (p .1)))
 
--- ---- the lent list after a result
+-- ---- the lent list
 
-lent-all : (o : Outcome) (n : ℕ) (written old : List ℕ) → o ≡ result n → lentAfter o written old ≡ written ++ drop (length written) old
-lent-all o n written old e = rw e
-
-lent-front : (o : Outcome) (n : ℕ) (written old : List ℕ) → o ≡ result n → n ≡ length written → take n (lentAfter o written old) ≡ written
-lent-front o n written old e l = ap (take n) (lent-all o n written old e) ∙ take-at written (drop (length written) old) n (sym l)
-
--- a refusal writes nothing; a result's entries stand at the front, and the later ones stay
-lent-told : (o : Outcome) (written old : List ℕ) → ((n : ℕ) → o ≡ result n → (n ≡ length written) × (n ≤ length old)) → Lent o written old (lentAfter o written old)
-lent-told o written old h =
-    record {
-      kept = λ k p e. rw e;
-      front = λ n e. (h n e .0, lent-front o n written old e (h n e .0));
-      later = λ n e. ap (drop n) (lent-all o n written old e) ∙ drop-at written (drop (length written) old) n (sym (h n e .0)) ∙ ap (λ (i : ℕ). drop i old) (sym (h n e .0));
-      same = whole o h;
-    }
-  where
-    whole : (o : Outcome) → ((n : ℕ) → o ≡ result n → (n ≡ length written) × (n ≤ length old)) → length (lentAfter o written old) ≡ length old
-    whole (result n) h =
-        let l = h n refl in
-        omega (arith, length-append written (drop (length written) old), length-drop (length written) old, l .0, l .1)
-    whole (refused k p) h = refl
-
+-- "A refusal writes to no lent list."; "written at the front; later entries stay"
 pub read-lent : ReadLent
 unfolding readTermList
 read-lent names text tree = lent-told (readTermOutcome names text (length tree)) (entriesOf names text) tree (λ n e. let p = read-back names text (length tree) n e in (p .1, p .2))

@@ -209,7 +209,7 @@ limit-examples : map given limits ≡ map due limits
 unfolding limits times manyNames ascii ab two refuseOn firstFaulty anyBelow sameList serialForest serial isLetter isNameByte allNameBytes isName sameName linesOf lineWith symbolOf isListed lineGround namesOr openAfter entryGround formOr treeOr textOfTerms textOf step scan termOr run nameBegins before seenFrom termFrom symbolsOf entriesOf nameGround readTermOutcome writeTermOutcome readTermList writeTermList
 limit-examples = refl
 
--- 21: a tree of six entries, with a limit for the entries. `readTermOutcome` is the use at 4,096, where a text that is refused has 4,097 bytes
+-- 21: a tree of six entries, with a limit for the entries. `readTermOutcome` is the use at 4,096, where a text that is refused has 4,098 bytes
 -- or more; that this is the limit follows from that of 12 by `written-reads` and `read-writes`
 abbrev within : (limit room : ℕ) → List ℕ → Outcome
 within limit room text = readTermWithin limit ab text room

@@ -1,10 +1,10 @@
--- What reading and writing a term take, and that they are inverse on what both take. Assumes nothing: these are definitions.
+-- What reading and writing a term take, that they are inverse on what both take, and what the lent lists then hold. Assumes nothing: these are definitions.
 use Prim.Native.Nat.{ℕ, _≤_, _<_}
 use mathlib.Core.Path.{_≡_}
 use mathlib.Core.Logic.{_↔_}
 use mathlib.Core.List.{List, _++_}
 use lib.ListN.{length, getD, take, drop}
-use Rattle.model.specs.Answers.{Outcome, result, refused}
+use Rattle.model.specs.Answers.{result, Lent}
 use Rattle.model.specs.Tree.{WellFormed}
 use Rattle.model.specs.Names.{IsNamesList, howManyNames}
 use Rattle.model.specs.Term.{alone, IsTerm}
@@ -53,18 +53,7 @@ ReadWrites =
     → (writeTermOutcome names (take n (readTermList names text tree)) (length lent) ≡ result (length text))
     × (writeTermList names (take n (readTermList names text tree)) lent ≡ text ++ drop (length text) lent)
 
--- what a lent list holds after an operation that writes at the front of it, by the answer
-pub record Lent (answer : Outcome) (written old after : List ℕ) : Type 0 where
-  -- "A refusal writes to no lent list."
-  pub kept : (number place : ℕ) → answer ≡ refused number place → after ≡ old
-  -- "gives the count of .. written at the front"
-  pub front : (n : ℕ) → answer ≡ result n → (n ≡ length written) × (take n after ≡ written)
-  -- "later entries stay"; "later bytes stay"
-  pub later : (n : ℕ) → answer ≡ result n → drop n after ≡ drop n old
-  -- a list becomes no longer and no shorter
-  pub same : length after ≡ length old
-
--- reading a term writes its entries, writing a term its bytes
+-- what the lent lists then hold: reading a term writes its entries, writing a term its bytes
 abbrev pub ReadLent : Type 0
 ReadLent = (names text tree : List ℕ) → Lent (readTermOutcome names text (length tree)) (entriesOf names text) tree (readTermList names text tree)
 
