@@ -483,7 +483,7 @@ term-or-back text t o e = by (scan (due 0) 0 text) refl e
 -- ---- "A term is a name, or a name followed by `(`, one or more terms with `,` between them, and `)`."
 
 -- the texts of terms, from left to right
-unfoldable texts : Terms → List (List ℕ)
+unfoldable pub texts : Terms → List (List ℕ)
 texts none = []
 texts (term n inner right) = textOf (record { name = n; inner = inner }) ∷ texts right
 
@@ -507,18 +507,44 @@ brackets-some none l = absurd (not-suc-le-zero l)
 brackets-some (term n inner right) l = ap (λ (x : List ℕ). 40 ∷ (x ++ 41 ∷ [])) (sym (commas-texts (term n inner right)))
 
 -- texts that are terms, as terms
-record Read (ts : List (List ℕ)) : Type 0 where
-  are : Terms
-  names : AllNames are
-  written : texts are ≡ ts
+pub record Read (ts : List (List ℕ)) : Type 0 where
+  pub are : Terms
+  pub names : AllNames are
+  pub written : texts are ≡ ts
 
-terms-texts : (ts : List (List ℕ)) → ((k : ℕ) → k < length ts → IsTerm (getD ts k [])) → Read ts
+pub terms-texts : (ts : List (List ℕ)) → ((k : ℕ) → k < length ts → IsTerm (getD ts k [])) → Read ts
 unfolding texts AllNames
 terms-texts [] h = record { are = none; names = tt; written = refl }
 terms-texts (t ∷ ts) h =
     let w = h 0 (omega arith) in
     let r = terms-texts ts (λ k l. h (suc k) (omega arith)) in
     record { are = term (w .is .name) (w .is .inner) (r .are); names = (w .names .0, w .names .1, r .names); written = λ i. w .written i ∷ r .written i }
+
+-- a name is a term, and so is a name followed by terms in brackets
+name-term : (n : List ℕ) → isName n ≡ true → IsTerm n
+unfolding AllNames
+name-term n e = record { is = record { name = n; inner = none }; names = (e, tt, tt); written = text-of (record { name = n; inner = none }) ∙ append-nil n }
+
+applied-term : (text : List ℕ) (a : Applied text) → Read (a .terms) → IsTerm text
+unfolding AllNames
+applied-term text a r = record {
+  is = record { name = a .name; inner = r .are };
+  names = (a .named, r .names, tt);
+  written =
+      text-of (record { name = a .name; inner = r .are })
+      ∙ ap (λ (x : List ℕ). a .name ++ x) (brackets-some (r .are) (rw (r .written) (a .some)))
+      ∙ ap (λ (x : List (List ℕ)). a .name ++ (40 ∷ (commas x ++ 41 ∷ []))) (r .written)
+      ∙ a .written;
+}
+
+-- the term that is read from such a text
+pub name-from : (n : List ℕ) → isName n ≡ true → termFrom n ≡ record { name = n; inner = none }
+unfolding name-term
+name-from n e = term-from n (name-term n e)
+
+pub applied-from : (text : List ℕ) (a : Applied text) (r : Read (a .terms)) → termFrom text ≡ record { name = a .name; inner = r .are }
+unfolding applied-term
+applied-from text a r = term-from text (applied-term text a r)
 
 pub term-sentence : TermSentence
 unfolding AllNames texts
@@ -538,14 +564,5 @@ term-sentence text = (λ w. there (w .is .name) (w .is .inner) (w .names) (sym (
         })
 
     back : (isName text ≡ true) ⊎ Applied text → IsTerm text
-    back (inl e) = record { is = record { name = text; inner = none }; names = (e, tt, tt); written = text-of (record { name = text; inner = none }) ∙ append-nil text }
-    back (inr a) =
-        let r = terms-texts (a .terms) (a .each) in
-        record {
-          is = record { name = a .name; inner = r .are };
-          names = (a .named, r .names, tt);
-          written = text-of (record { name = a .name; inner = r .are })
-              ∙ ap (λ (x : List ℕ). a .name ++ x) (brackets-some (r .are) (rw (r .written) (a .some)))
-              ∙ ap (λ (x : List (List ℕ)). a .name ++ (40 ∷ (commas x ++ 41 ∷ []))) (r .written)
-              ∙ a .written;
-        }
+    back (inl e) = name-term text e
+    back (inr a) = applied-term text a (terms-texts (a .terms) (a .each))
