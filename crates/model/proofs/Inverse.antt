@@ -1,4 +1,4 @@
--- What reading and writing a term take, that they are inverse on what both take, and what the lent lists then hold.
+-- What reading and writing a term take, that they are inverse on what both take, what the lent lists then hold, and the entries of a term.
 use Prim.Native.Nat.{ℕ, _≤_}
 use mathlib.Core.Path.{_≡_, refl, ap, sym, subst, _∙_}
 use mathlib.Core.List.{List, [], _∷_, _++_, append-assoc}
@@ -10,8 +10,8 @@ use Rattle.model.specs.Answers.{Outcome, result, lentAfter}
 use Rattle.model.specs.Tree.{Forest, Tree, empty, node, only, serialForest, serial, SymbolsInRange, WellFormed}
 use Rattle.model.specs.Names.{symbolOf}
 use Rattle.model.specs.Term.{Terms, Term, none, term, alone, textOf, AllNames, IsTerm, termFrom}
-use Rattle.model.specs.TermOperations.{symbolsOf, namesOf, treeOfTerm, termOfTree, AllListed, entriesOf, entriesEach, EntriesSentence, bytesOf, nameGround, readTermOutcome, symbolGround, writeTermOutcome, readTermList, writeTermList}
-use Rattle.model.specs.Inverse.{Writable, WriteTaken, Readable, ReadTaken, WrittenReads, ReadWrites, ReadLent, WriteLent}
+use Rattle.model.specs.TermOperations.{symbolsOf, namesOf, treeOfTerm, termOfTree, AllListed, entriesOf, bytesOf, nameGround, readTermOutcome, symbolGround, writeTermOutcome, readTermList, writeTermList}
+use Rattle.model.specs.Inverse.{Writable, WriteTaken, Readable, ReadTaken, WrittenReads, ReadWrites, ReadLent, WriteLent, entriesEach, EntriesSentence}
 use Rattle.model.proofs.Choice.{if-no, if-result, no-fault, no-fault-back}
 use Rattle.model.proofs.Writing.{lent-all, lent-front, lent-told}
 use Rattle.model.proofs.Entries.{tree-from, tree-or-taken, tree-or-back}

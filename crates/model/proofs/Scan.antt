@@ -12,8 +12,9 @@ use borrow.Author.Tests.{eqb-true, ltb-true, lt-ltb}
 use Rattle.model.specs.Answers.{Outcome, result}
 use Rattle.model.specs.Choice.{if_then_else_}
 use Rattle.model.specs.Names.{isLetter, isNameByte, allNameBytes, isName}
-use Rattle.model.specs.Term.{Terms, none, term, Term, alone, inBrackets, afterComma, textOfTerms, textOf, AllNames, IsTerm, commas, Applied, TermSentence, Reading, due, inName, closed, Step, goesOn, stops, afterTerm, step, mayEnd, Scan, passes, breaksAt, onward, scan, breakOr, termOr, Seen, before, seenFrom, seenTerm, termFrom}
+use Rattle.model.specs.Term.{Terms, none, term, Term, alone, inBrackets, afterComma, textOfTerms, textOf, AllNames, IsTerm, Reading, due, inName, closed, Step, goesOn, stops, afterTerm, step, mayEnd, Scan, passes, breaksAt, onward, scan, breakOr, termOr, Seen, before, seenFrom, seenTerm, termFrom}
 use Rattle.model.specs.Place.{StopsAt}
+use Rattle.model.specs.Inverse.{commas, Applied, TermSentence}
 use Rattle.model.proofs.Choice.{and-both}
 use Rattle.model.proofs.Rows.{sameList-refl}
 use Rattle.model.proofs.Bytes.{byte-first, byte-others, name-parts, name-made, name-bytes}

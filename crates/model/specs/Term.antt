@@ -1,10 +1,9 @@
 -- Terms: their grammar, the text of a term, and where a text stops being one. Assumes nothing: these are definitions.
-use Prim.Native.Nat.{ℕ, zero, suc, _≤_, _<_}
+use Prim.Native.Nat.{ℕ, zero, suc}
 use mathlib.Core.Path.{_≡_}
 use mathlib.Core.Bool.{Bool, true, false, _&&_, not}
-use mathlib.Core.Logic.{_⊎_, _↔_}
 use mathlib.Core.List.{List, [], _∷_, _++_}
-use lib.ListN.{length, getD, drop}
+use lib.ListN.{getD, drop}
 use lib.Dec.{eqb, ltb}
 use Rattle.model.specs.Answers.{Outcome, refused}
 use Rattle.model.specs.Choice.{if_then_else_}
@@ -48,29 +47,11 @@ unfoldable pub AllNames : Terms → Type 0
 AllNames none = Unit
 AllNames (term n inner right) = (isName n ≡ true) × AllNames inner × AllNames right
 
--- the text is a term
+-- the text is a term (once more, by texts alone: the law `term-sentence`)
 pub record IsTerm (text : List ℕ) : Type 0 where
   pub is : Term
   pub names : AllNames (alone is)
   pub written : textOf is ≡ text
-
--- Once more, by texts alone (the law `term-sentence`): nothing but what the sentence says bounds how many terms stand in brackets, or how deep
-unfoldable pub commas : List (List ℕ) → List ℕ
-commas [] = []
-commas (t ∷ []) = t
-commas (t ∷ u ∷ us) = t ++ 44 ∷ commas (u ∷ us)
-
--- "a name followed by `(`, one or more terms with `,` between them, and `)`"
-pub record Applied (text : List ℕ) : Type 0 where
-  pub name : List ℕ
-  pub named : isName name ≡ true
-  pub terms : List (List ℕ)
-  pub some : 1 ≤ length terms
-  pub each : (k : ℕ) → k < length terms → IsTerm (getD terms k [])
-  pub written : name ++ (40 ∷ (commas terms ++ 41 ∷ [])) ≡ text
-
-abbrev pub TermSentence : Type 0
-TermSentence = (text : List ℕ) → IsTerm text ↔ ((isName text ≡ true) ⊎ Applied text)
 
 -- Reading a text byte by byte. So many brackets are open, and: a name is due; so many bytes of a name are read; a bracket has just been closed
 pub data Reading : Type 0 where

@@ -3,15 +3,15 @@
 use Prim.Native.Nat.{ℕ}
 use mathlib.Core.Path.{_≡_}
 use mathlib.Core.Bool.{true, _&&_, not}
-use mathlib.Core.List.{List, [], _∷_, _++_}
+use mathlib.Core.List.{List}
 use lib.ListN.{length, getD}
 use lib.Dec.{ltb}
 use Rattle.model.specs.Answers.{Outcome, result, refused, lentAfter}
 use Rattle.model.specs.Choice.{if_then_else_, firstFaulty}
 use Rattle.model.specs.Tree.{Forest, Tree, empty, node, serial}
-use Rattle.model.specs.Names.{isName, nameOf, symbolOf, isListed, howManyNames, namesOr}
+use Rattle.model.specs.Names.{nameOf, symbolOf, isListed, howManyNames, namesOr}
 use Rattle.model.specs.Entries.{treeOr, treeFrom}
-use Rattle.model.specs.Term.{Terms, Term, none, term, textOf, Applied, termOr, nameBegins, nameAt, termFrom}
+use Rattle.model.specs.Term.{Terms, Term, none, term, textOf, termOr, nameBegins, nameAt, termFrom}
 
 -- each name's symbol
 unfoldable pub symbolsOf : (names : List ℕ) → Terms → Forest
@@ -29,19 +29,9 @@ treeOfTerm names t = record { symbol = symbolOf names (t .name); children = symb
 abbrev pub termOfTree : (names : List ℕ) → Tree → Term
 termOfTree names t = record { name = nameOf names (t .symbol); inner = namesOf names (t .children) }
 
--- the entries of the tree that a term is
+-- the entries of the tree that a term is (once more, by texts alone: the law `entries-sentence`)
 unfoldable pub entriesOf : (names text : List ℕ) → List ℕ
 entriesOf names text = serial (treeOfTerm names (termFrom text))
-
--- Once more, by texts alone (the law `entries-sentence`): "the symbol of a node, its children one after another, then the bar, which is entry 0"
-unfoldable pub entriesEach : (names : List ℕ) → List (List ℕ) → List ℕ
-entriesEach names [] = []
-entriesEach names (t ∷ ts) = entriesOf names t ++ entriesEach names ts
-
-abbrev pub EntriesSentence : Type 0
-EntriesSentence =
-    (names text : List ℕ) → (isName text ≡ true → entriesOf names text ≡ symbolOf names text ∷ 0 ∷ [])
-    × ((a : Applied text) → entriesOf names text ≡ symbolOf names (a .name) ∷ (entriesEach names (a .terms) ++ 0 ∷ []))
 
 -- the bytes of the term that a tree is
 unfoldable pub bytesOf : (names tree : List ℕ) → List ℕ
