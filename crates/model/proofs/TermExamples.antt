@@ -113,6 +113,7 @@ examples =
     ∷ writes ab (2 ∷ 2 ∷ 1 ∷ 0 ∷ 0 ∷ 1 ∷ 0 ∷ 0 ∷ []) (replicate 9 7) (result 9) (ascii "b(b(a),a)")
     ∷ writes ab (1 ∷ 1 ∷ 0 ∷ 2 ∷ 0 ∷ 0 ∷ []) (replicate 5 7) (refused 24 6) (replicate 5 7)
     ∷ writes ab (1 ∷ 0 ∷ []) [] (refused 24 1) []
+    ∷ writes ab (2 ∷ 2 ∷ 1 ∷ 0 ∷ 0 ∷ 1 ∷ 0 ∷ 0 ∷ []) two (refused 24 9) two
     -- capital letters are others; a name that begins another one
     ∷ reads (ascii "a\nA\naB_9-\naB\n") (ascii "A(aB,aB_9-)") (replicate 6 7) (result 6) (2 ∷ 4 ∷ 0 ∷ 3 ∷ 0 ∷ 0 ∷ [])
     ∷ writes (ascii "a\nA\naB_9-\naB\n") (2 ∷ 4 ∷ 0 ∷ 3 ∷ 0 ∷ 0 ∷ []) (replicate 11 7) (result 11) (ascii "A(aB,aB_9-)")
@@ -209,15 +210,15 @@ limit-examples : map given limits ≡ map due limits
 unfolding limits times manyNames ascii ab two refuseOn firstFaulty anyBelow sameList serialForest serial isLetter isNameByte allNameBytes isName sameName linesOf lineWith symbolOf isListed lineGround namesOr openAfter entryGround formOr treeOr textOfTerms textOf step scan termOr run nameBegins before seenFrom termFrom symbolsOf entriesOf nameGround readTermOutcome writeTermOutcome readTermList writeTermList
 limit-examples = refl
 
--- 21: a tree of six entries, with a limit for the entries. `readTermOutcome` is the use at 4,096, where a text that is refused has 4,098 bytes
--- or more; that this is the limit follows from that of 12 by `written-reads` and `read-writes`
+-- 21: a term of 9 bytes whose tree has 8 entries, with a limit for the entries. `readTermOutcome` is the use at 4,096, where a text that is
+-- refused has 4,098 bytes or more; that this is the limit follows from that of 12 by `written-reads` and `read-writes`
 abbrev within : (limit room : ℕ) → List ℕ → Outcome
 within limit room text = readTermWithin limit ab text room
 
 entry-limit :
     -- the limit is met; it is passed
-    (within 6 6 (ascii "a(a,a)") ≡ result 6) × (within 5 6 (ascii "a(a,a)") ≡ refused 21 0)
+    (within 8 8 (ascii "b(b(a),a)") ≡ result 8) × (within 7 8 (ascii "b(b(a),a)") ≡ refused 21 0) × (within 2 8 (ascii "b(b(a),a)") ≡ refused 21 0)
     -- 21 comes before 22, and after 20
-    × (within 6 5 (ascii "a(a,a)") ≡ refused 22 6) × (within 5 5 (ascii "a(a,a)") ≡ refused 21 0) × (within 5 5 (ascii "a(a,c)") ≡ refused 20 4)
+    × (within 8 7 (ascii "b(b(a),a)") ≡ refused 22 8) × (within 7 7 (ascii "b(b(a),a)") ≡ refused 21 0) × (within 7 7 (ascii "b(b(a),c)") ≡ refused 20 7)
 unfolding ascii ab refuseOn firstFaulty anyBelow sameList serialForest serial isLetter isNameByte allNameBytes isName sameName linesOf lineWith symbolOf isListed lineGround namesOr textOfTerms textOf step scan termOr run nameBegins before seenFrom termFrom symbolsOf entriesOf nameGround
-entry-limit = (refl, refl, refl, refl, refl)
+entry-limit = (refl, refl, refl, refl, refl, refl)
