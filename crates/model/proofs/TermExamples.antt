@@ -1,21 +1,28 @@
 -- Terms read and written, checked by computation against "The operations and what they turn away": answers, lists, the order of the
--- refusals, and limits from both sides. Texts stand as texts, so that no byte's number is taken on trust.
-use Prim.Native.Nat.{ℕ, zero, suc, _+_, _/_, _%_}
+-- refusals, and limits from both sides; 21 at its real size by the laws. Texts stand as texts, so that no byte's number is taken on trust.
+use Prim.Native.Nat.{ℕ, zero, suc, _+_, _*_, _/_, _%_}
 use Prim.Native.Char.{code}
 use Prim.Native.String.{String, [] as no-text, _∷_ as and-text}
-use mathlib.Core.Path.{_≡_, refl}
+use mathlib.Core.Path.{_≡_, refl, ap, sym, _∙_}
 use mathlib.Core.Bool.{Bool, false, not}
-use mathlib.Core.List.{List, [], _∷_, _++_, map}
-use lib.ListN.{length, getD, replicate}
+use mathlib.Core.List.{List, [], _∷_, _++_, append-nil, map}
+use native.Mathlib.Omega.{arith}
+use lib.ListN.{length, getD, replicate, length-append}
 use lib.Dec.{eqb}
 use Rattle.model.specs.Answers.{Outcome, result, refused}
 use Rattle.model.specs.Choice.{if_then_else_, refuseOn, firstFaulty, anyBelow}
 use Rattle.model.specs.Table.{sameList}
 use Rattle.model.specs.Tree.{serialForest, serial}
-use Rattle.model.specs.Names.{isLetter, isNameByte, allNameBytes, isName, sameName, linesOf, nameOf, lineWith, symbolOf, isListed, lineGround, namesOr}
+use Rattle.model.specs.Names.{IsNamesList, isLetter, isNameByte, allNameBytes, isName, sameName, linesOf, nameOf, lineWith, symbolOf, isListed, lineGround, namesOr}
 use Rattle.model.specs.Entries.{openAfter, entryGround, endsTooSoon, formOr, treeOr, levelsOf, treeFrom}
-use Rattle.model.specs.Term.{textOfTerms, textOf, step, scan, termOr, run, nameBegins, before, seenFrom, termFrom}
-use Rattle.model.specs.TermOperations.{symbolsOf, namesOf, entriesOf, bytesOf, nameGround, readTermWithin, readTermOutcome, symbolGround, writeTermOutcome, readTermList, writeTermList}
+use Rattle.model.specs.Term.{Terms, none, term, Term, alone, AllNames, IsTerm, textOfTerms, textOf, step, scan, termOr, run, nameBegins, before, seenFrom, termFrom}
+use Rattle.model.specs.TermOperations.{symbolsOf, namesOf, treeOfTerm, AllListed, entriesOf, bytesOf, nameGround, readTermWithin, readTermOutcome, symbolGround, writeTermOutcome, readTermList, writeTermList}
+use Rattle.model.specs.Inverse.{Readable}
+use Rattle.model.specs.TermRefusals.{read21}
+use Rattle.model.proofs.Scan.{term-of}
+use Rattle.model.proofs.Names.{names-list, names-back}
+use Rattle.model.proofs.Inverse.{read-exactly}
+use Rattle.model.proofs.TermRefusals.{read-refuses}
 
 -- the bytes of an ASCII text
 unfoldable ascii : String → List ℕ
@@ -210,8 +217,8 @@ limit-examples : map given limits ≡ map due limits
 unfolding limits times manyNames ascii ab two refuseOn firstFaulty anyBelow sameList serialForest serial isLetter isNameByte allNameBytes isName sameName linesOf lineWith symbolOf isListed lineGround namesOr openAfter entryGround formOr treeOr textOfTerms textOf step scan termOr run nameBegins before seenFrom termFrom symbolsOf entriesOf nameGround readTermOutcome writeTermOutcome readTermList writeTermList
 limit-examples = refl
 
--- 21: a term of 9 bytes whose tree has 8 entries, with a limit for the entries. `readTermOutcome` is the use at 4,096, where a text that is
--- refused has 4,098 bytes or more; that this is the limit follows from that of 12 by `written-reads` and `read-writes`
+-- 21: a term of 9 bytes whose tree has 8 entries, with a limit for the entries. `readTermOutcome` is the use at 4,096, where the shortest text
+-- that is refused has 4,098 bytes, too many to compute with (below: `tree-4096` and `tree-4098`)
 abbrev within : (limit room : ℕ) → List ℕ → Outcome
 within limit room text = readTermWithin limit ab text room
 
@@ -222,3 +229,96 @@ entry-limit :
     × (within 8 7 (ascii "b(b(a),a)") ≡ refused 22 8) × (within 7 7 (ascii "b(b(a),a)") ≡ refused 21 0) × (within 7 7 (ascii "b(b(a),c)") ≡ refused 20 7)
 unfolding ascii ab refuseOn firstFaulty anyBelow sameList serialForest serial isLetter isNameByte allNameBytes isName sameName linesOf lineWith symbolOf isListed lineGround namesOr textOfTerms textOf step scan termOr run nameBegins before seenFrom termFrom symbolsOf entriesOf nameGround
 entry-limit = (refl, refl, refl, refl, refl, refl)
+
+-- ---- 21 at its real size, by the laws: a name with n + 1 leaves in its brackets, `a(a,..,a)`
+
+unfoldable leaves : ℕ → Terms
+leaves zero = none
+leaves (suc n) = term (ascii "a") none (leaves n)
+
+abbrev wide : ℕ → Term
+wide n = record { name = ascii "a"; inner = leaves (suc n) }
+
+-- its text, and how long that is
+leaves-text : (n : ℕ) → textOfTerms (leaves (suc n)) ≡ times n (ascii "a,") ++ ascii "a"
+unfolding ascii leaves times textOfTerms
+leaves-text zero = refl
+leaves-text (suc n) = ap (λ (x : List ℕ). ascii "a," ++ x) (leaves-text n)
+
+wide-text : (n : ℕ) → textOf (wide n) ≡ ascii "a(" ++ (times n (ascii "a,") ++ ascii "a" ++ ascii ")")
+unfolding ascii leaves textOf textOfTerms
+wide-text n = append-nil _ ∙ ap (λ (x : List ℕ). ascii "a(" ++ (x ++ ascii ")")) (leaves-text n)
+
+times-length : (n : ℕ) → length (times n (ascii "a,")) ≡ n * 2
+unfolding ascii times
+times-length zero = refl
+times-length (suc n) = omega (arith, times-length n)
+
+wide-length : (n : ℕ) → length (textOf (wide n)) ≡ n * 2 + 4
+unfolding ascii
+wide-length n =
+    ap length (wide-text n)
+    ∙ omega (
+      arith,
+      times-length n,
+      length-append (times n (ascii "a,")) (ascii "a"),
+      length-append (times n (ascii "a,") ++ ascii "a") (ascii ")"),
+    )
+
+-- its names are names, and listed
+leaves-names : (n : ℕ) → AllNames (leaves n)
+unfolding ascii leaves AllNames isName allNameBytes isLetter
+leaves-names zero = tt
+leaves-names (suc n) = (refl, tt, leaves-names n)
+
+leaves-listed : (n : ℕ) → AllListed ab (leaves n)
+unfolding ascii ab leaves AllListed isListed linesOf lineWith sameName sameList
+leaves-listed zero = tt
+leaves-listed (suc n) = (refl, tt, leaves-listed n)
+
+wide-names : (n : ℕ) → AllNames (alone (wide n))
+unfolding ascii AllNames isName allNameBytes isLetter
+wide-names n = (refl, leaves-names (suc n), tt)
+
+wide-listed : (n : ℕ) → AllListed ab (alone (wide n))
+unfolding ascii ab AllListed isListed linesOf lineWith sameName sameList
+wide-listed n = (refl, leaves-listed (suc n), tt)
+
+wide-term : (n : ℕ) → IsTerm (textOf (wide n))
+wide-term n = record { is = wide n; names = wide-names n; written = refl }
+
+-- its entries
+leaves-entries : (n : ℕ) → length (serialForest (symbolsOf ab (leaves n))) ≡ n * 2
+unfolding leaves serialForest symbolsOf
+leaves-entries zero = refl
+leaves-entries (suc n) = omega (arith, leaves-entries n)
+
+wide-entries : (n : ℕ) → length (entriesOf ab (textOf (wide n))) ≡ n * 2 + 4
+unfolding entriesOf serial serialForest symbolsOf
+wide-entries n =
+    ap (λ (t : Term). length (serial (treeOfTerm ab t))) (term-of (wide n) (wide-names n))
+    ∙ omega (arith, leaves-entries (suc n), length-append (serialForest (symbolsOf ab (leaves (suc n)))) (0 ∷ []))
+
+ab-list : IsNamesList ab
+unfolding ascii ab refuseOn firstFaulty anyBelow sameList isLetter isNameByte allNameBytes isName sameName linesOf lineGround namesOr
+ab-list = names-list ab (names-back ab 0 (result 0) refl .0)
+
+-- 2,048 names, so 4,096 entries, are taken; 2,049 are 21 at 0
+tree-4096 : readTermOutcome ab (textOf (wide 2046)) 4096 ≡ result 4096
+unfolding wide-term
+tree-4096 =
+    let e = wide-entries 2046 in
+    let r : Readable ab (textOf (wide 2046)) = record {
+      list = ab-list;
+      short = omega (arith, wide-length 2046);
+      well = wide-term 2046;
+      listed = wide-listed 2046;
+      few = omega (arith, e);
+    } in
+    read-exactly ab (textOf (wide 2046)) 4096 4096 .1 (r, sym e, omega arith)
+
+tree-4098 : readTermOutcome ab (textOf (wide 2047)) 4096 ≡ refused 21 0
+unfolding wide-term
+tree-4098 =
+    read-refuses ab (textOf (wide 2047)) 4096 21 0 .1
+    (read21 refl refl ab-list (omega (arith, wide-length 2047)) (wide-term 2047) (wide-listed 2047) (omega (arith, wide-entries 2047)))
