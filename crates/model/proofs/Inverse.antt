@@ -1,20 +1,21 @@
--- What reading and writing a term take, and that they are inverse on what both take.
+-- What reading and writing a term take, that they are inverse on what both take, what the lent lists then hold, and the entries of a term.
 use Prim.Native.Nat.{ℕ, _≤_}
 use mathlib.Core.Path.{_≡_, refl, ap, sym, subst, _∙_}
-use mathlib.Core.List.{List, _++_}
+use mathlib.Core.List.{List, [], _∷_, _++_, append-assoc}
 use native.Mathlib.Omega.{arith}
 use lib.ListN.{length, take, drop}
-use lib.Seq.{take-at}
 use lib.Dec.{ltb}
 use borrow.Author.Tests.{ltb-false, le-ltb}
 use Rattle.model.specs.Answers.{Outcome, result, lentAfter}
-use Rattle.model.specs.Tree.{Forest, Tree, empty, node, only, serial, SymbolsInRange, WellFormed}
+use Rattle.model.specs.Tree.{Forest, Tree, empty, node, only, serialForest, serial, SymbolsInRange, WellFormed}
+use Rattle.model.specs.Names.{symbolOf}
 use Rattle.model.specs.Term.{Terms, Term, none, term, alone, textOf, AllNames, IsTerm, termFrom}
 use Rattle.model.specs.TermOperations.{symbolsOf, namesOf, treeOfTerm, termOfTree, AllListed, entriesOf, bytesOf, nameGround, readTermOutcome, symbolGround, writeTermOutcome, readTermList, writeTermList}
-use Rattle.model.specs.Inverse.{Writable, WriteTaken, Readable, ReadTaken, WrittenReads, ReadWrites}
+use Rattle.model.specs.Inverse.{Writable, WriteTaken, Readable, ReadTaken, WrittenReads, ReadWrites, ReadLent, WriteLent, entriesEach, EntriesSentence}
 use Rattle.model.proofs.Choice.{if-no, if-result, no-fault, no-fault-back}
+use Rattle.model.proofs.Writing.{lent-all, lent-front, lent-told}
 use Rattle.model.proofs.Entries.{tree-from, tree-or-taken, tree-or-back}
-use Rattle.model.proofs.Scan.{term-from, term-text, term-or-taken, term-or-back}
+use Rattle.model.proofs.Scan.{texts, terms-texts, name-from, applied-from, term-of, term-from, term-text, term-or-taken, term-or-back}
 use Rattle.model.proofs.Names.{Sound, names-list, list-sound, names-taken, names-back, symbol-of-name, name-of-symbol, name-is}
 use Rattle.model.proofs.Listed.{AllNamed, listed-names, names-listed, low-named, named-low, symbol-low, low-symbol, text-bound}
 
@@ -70,6 +71,28 @@ tree-term names h t a =
 term-tree : (names : List ℕ) (t : Term) → AllListed names (alone t) → termOfTree names (treeOfTerm names t) ≡ t
 unfolding AllListed
 term-tree names t a = λ i. record { name = name-of-symbol names (t .name) (a .0) .0 i; inner = names-symbols names (t .inner) (a .1) i }
+
+-- ---- the entries of a term, by texts alone
+
+entries-are : (names : List ℕ) (f : Terms) → AllNames f → serialForest (symbolsOf names f) ≡ entriesEach names (texts f)
+unfolding AllNames symbolsOf serialForest serial entriesOf entriesEach texts
+entries-are names none h = refl
+entries-are names (term n inner right) h =
+    let t : Term = record { name = n; inner = inner } in
+    sym (append-assoc (symbolOf names n ∷ serialForest (symbolsOf names inner)) (0 ∷ []) (serialForest (symbolsOf names right)))
+    ∙ ap (λ (x : Term). serial (treeOfTerm names x) ++ serialForest (symbolsOf names right)) (sym (term-of t (h .0, h .1, tt)))
+    ∙ ap (λ (x : List ℕ). entriesOf names (textOf t) ++ x) (entries-are names right (h .2))
+
+pub entries-sentence : EntriesSentence
+unfolding serialForest serial entriesOf symbolsOf
+entries-sentence names text = (
+  λ e. ap (λ (t : Term). serial (treeOfTerm names t)) (name-from text e),
+  λ a.
+      let r = terms-texts (a .terms) (a .each) in
+      ap (λ (t : Term). serial (treeOfTerm names t)) (applied-from text a r)
+      ∙ ap (λ (x : List ℕ). symbolOf names (a .name) ∷ (x ++ 0 ∷ []))
+      (entries-are names (r .are) (r .names) ∙ ap (entriesEach names) (r .written)),
+)
 
 -- ---- what writing takes
 
@@ -147,13 +170,16 @@ pub read-exactly : ReadTaken
 read-exactly names text room n =
     (read-back names text room n, λ p. read-taken names text room (p .0) (omega (arith, p .1, p .2)) ∙ ap result (sym (p .1)))
 
--- ---- the lent list after a result
+-- ---- the lent list
 
-lent-all : (o : Outcome) (n : ℕ) (written old : List ℕ) → o ≡ result n → lentAfter o written old ≡ written ++ drop (length written) old
-lent-all o n written old e = rw e
+-- "A refusal writes to no lent list."; "written at the front; later entries stay"
+pub read-lent : ReadLent
+unfolding readTermList
+read-lent names text tree = lent-told (readTermOutcome names text (length tree)) (entriesOf names text) tree (λ n e. let p = read-back names text (length tree) n e in (p .1, p .2))
 
-lent-front : (o : Outcome) (n : ℕ) (written old : List ℕ) → o ≡ result n → n ≡ length written → take n (lentAfter o written old) ≡ written
-lent-front o n written old e l = ap (take n) (lent-all o n written old e) ∙ take-at written (drop (length written) old) n (sym l)
+pub write-lent : WriteLent
+unfolding writeTermList
+write-lent names tree text = lent-told (writeTermOutcome names tree (length text)) (bytesOf names tree) text (λ n e. let p = write-back names tree (length text) n e in (p .1, p .2))
 
 -- what one operation writes at the front, the other takes, and it gives back the list that was taken first
 there-and-back : (outcome : List ℕ → ℕ → Outcome) (back : List ℕ → List ℕ) (o : Outcome) (n : ℕ) (first written old lent : List ℕ)

@@ -2,10 +2,11 @@
 use Prim.Native.Nat.{ℕ, zero, suc, _+_, _≤_, _<_}
 use mathlib.Core.Path.{_≡_, refl, ap, sym, _∙_}
 use mathlib.Core.Bool.{Bool, true, false}
+use mathlib.Core.Logic.{_⊎_, inl, inr}
 use mathlib.Core.List.{List, [], _∷_, _++_, append-assoc, append-nil}
 use native.Mathlib.Omega.{arith}
-use native.Mathlib.Nat.{add-zero}
-use lib.ListN.{length, take}
+use native.Mathlib.Nat.{add-zero, not-suc-le-zero, le-of-suc-le-suc}
+use lib.ListN.{length, getD, take}
 use lib.Dec.{eqb, ltb, eqb·suc-zero}
 use borrow.Author.Tests.{eqb-true, ltb-true, lt-ltb}
 use Rattle.model.specs.Answers.{Outcome, result}
@@ -13,6 +14,7 @@ use Rattle.model.specs.Choice.{if_then_else_}
 use Rattle.model.specs.Names.{isLetter, isNameByte, allNameBytes, isName}
 use Rattle.model.specs.Term.{Terms, none, term, Term, alone, inBrackets, afterComma, textOfTerms, textOf, AllNames, IsTerm, Reading, due, inName, closed, Step, goesOn, stops, afterTerm, step, mayEnd, Scan, passes, breaksAt, onward, scan, breakOr, termOr, Seen, before, seenFrom, seenTerm, termFrom}
 use Rattle.model.specs.Place.{StopsAt}
+use Rattle.model.specs.Inverse.{commas, Applied, TermSentence}
 use Rattle.model.proofs.Choice.{and-both}
 use Rattle.model.proofs.Rows.{sameList-refl}
 use Rattle.model.proofs.Bytes.{byte-first, byte-others, name-parts, name-made, name-bytes}
@@ -478,3 +480,90 @@ term-or-back text t o e = by (scan (due 0) 0 text) refl e
     by : (s : Scan) → scan (due 0) 0 text ≡ s → breakOr s o ≡ result t → IsTerm text × (o ≡ result t)
     by passes f g = (whole-term text f, g)
     by (breaksAt p) f g = let z : _≡_ {A = ℕ} 0 1 = cc in absurd (omega arith)
+
+-- ---- "A term is a name, or a name followed by `(`, one or more terms with `,` between them, and `)`."
+
+-- the texts of terms, from left to right
+unfoldable pub texts : Terms → List (List ℕ)
+texts none = []
+texts (term n inner right) = textOf (record { name = n; inner = inner }) ∷ texts right
+
+commas-texts : (f : Terms) → commas (texts f) ≡ textOfTerms f
+unfolding commas texts textOfTerms textOf
+commas-texts none = refl
+commas-texts (term n inner none) = refl
+commas-texts (term n inner (term m k r)) =
+    ap (λ (x : List ℕ). x ++ 44 ∷ commas (texts (term m k r))) (text-of (record { name = n; inner = inner }))
+    ∙ ap (λ (x : List ℕ). n ++ bracketed inner ++ 44 ∷ x) (commas-texts (term m k r))
+
+texts-terms : (f : Terms) → AllNames f → (k : ℕ) → k < length (texts f) → IsTerm (getD (texts f) k [])
+unfolding texts AllNames
+texts-terms none h k l = absurd (not-suc-le-zero l)
+texts-terms (term n inner right) h zero l = record { is = record { name = n; inner = inner }; names = (h .0, h .1, tt); written = refl }
+texts-terms (term n inner right) h (suc k) l = texts-terms right (h .2) k (le-of-suc-le-suc l)
+
+brackets-some : (f : Terms) → 1 ≤ length (texts f) → bracketed f ≡ 40 ∷ (commas (texts f) ++ 41 ∷ [])
+unfolding texts
+brackets-some none l = absurd (not-suc-le-zero l)
+brackets-some (term n inner right) l = ap (λ (x : List ℕ). 40 ∷ (x ++ 41 ∷ [])) (sym (commas-texts (term n inner right)))
+
+-- texts that are terms, as terms
+pub record Read (ts : List (List ℕ)) : Type 0 where
+  pub are : Terms
+  pub names : AllNames are
+  pub written : texts are ≡ ts
+
+pub terms-texts : (ts : List (List ℕ)) → ((k : ℕ) → k < length ts → IsTerm (getD ts k [])) → Read ts
+unfolding texts AllNames
+terms-texts [] h = record { are = none; names = tt; written = refl }
+terms-texts (t ∷ ts) h =
+    let w = h 0 (omega arith) in
+    let r = terms-texts ts (λ k l. h (suc k) (omega arith)) in
+    record { are = term (w .is .name) (w .is .inner) (r .are); names = (w .names .0, w .names .1, r .names); written = λ i. w .written i ∷ r .written i }
+
+-- a name is a term, and so is a name followed by terms in brackets
+name-term : (n : List ℕ) → isName n ≡ true → IsTerm n
+unfolding AllNames
+name-term n e = record { is = record { name = n; inner = none }; names = (e, tt, tt); written = text-of (record { name = n; inner = none }) ∙ append-nil n }
+
+applied-term : (text : List ℕ) (a : Applied text) → Read (a .terms) → IsTerm text
+unfolding AllNames
+applied-term text a r = record {
+  is = record { name = a .name; inner = r .are };
+  names = (a .named, r .names, tt);
+  written =
+      text-of (record { name = a .name; inner = r .are })
+      ∙ ap (λ (x : List ℕ). a .name ++ x) (brackets-some (r .are) (rw (r .written) (a .some)))
+      ∙ ap (λ (x : List (List ℕ)). a .name ++ (40 ∷ (commas x ++ 41 ∷ []))) (r .written)
+      ∙ a .written;
+}
+
+-- the term that is read from such a text
+pub name-from : (n : List ℕ) → isName n ≡ true → termFrom n ≡ record { name = n; inner = none }
+unfolding name-term
+name-from n e = term-from n (name-term n e)
+
+pub applied-from : (text : List ℕ) (a : Applied text) (r : Read (a .terms)) → termFrom text ≡ record { name = a .name; inner = r .are }
+unfolding applied-term
+applied-from text a r = term-from text (applied-term text a r)
+
+pub term-sentence : TermSentence
+unfolding AllNames texts
+term-sentence text = (λ w. there (w .is .name) (w .is .inner) (w .names) (sym (text-of (w .is)) ∙ w .written), back)
+  where
+    there : (n : List ℕ) (f : Terms) → AllNames (term n f none) → n ++ bracketed f ≡ text → (isName text ≡ true) ⊎ Applied text
+    there n none h e = inl (rw (sym e ∙ append-nil n) (h .0))
+    there n (term m k r) h e =
+        let f = term m k r in
+        inr (record {
+          name = n;
+          named = h .0;
+          terms = texts f;
+          some = omega arith;
+          each = texts-terms f (h .1);
+          written = ap (λ (x : List ℕ). n ++ x) (sym (brackets-some f (omega arith))) ∙ e;
+        })
+
+    back : (isName text ≡ true) ⊎ Applied text → IsTerm text
+    back (inl e) = name-term text e
+    back (inr a) = applied-term text a (terms-texts (a .terms) (a .each))

@@ -1,42 +1,89 @@
 -- Terms read and written, checked by computation against "The operations and what they turn away": answers, lists, the order of the
--- refusals, and limits from both sides. Texts stand as texts, so that no byte's number is taken on trust.
-use Prim.Native.Nat.{ℕ, zero, suc, _+_, _/_, _%_}
+-- refusals, and limits from both sides; 21 at its real size by the laws. Texts stand as texts, so that no byte's number is taken on trust.
+use Prim.Native.Nat.{ℕ, zero, suc, _+_, _*_, _/_, _%_}
 use Prim.Native.Char.{code}
 use Prim.Native.String.{String, [] as no-text, _∷_ as and-text}
-use mathlib.Core.Path.{_≡_, refl}
-use mathlib.Core.Bool.{Bool}
-use mathlib.Core.List.{List, [], _∷_, _++_, map}
-use lib.ListN.{length, replicate}
+use mathlib.Core.Path.{_≡_, refl, ap, sym, _∙_}
+use mathlib.Core.Bool.{Bool, false, not}
+use mathlib.Core.List.{List, [], _∷_, _++_, append-nil, map}
+use native.Mathlib.Omega.{arith}
+use lib.ListN.{length, getD, replicate, length-append}
+use lib.Dec.{eqb}
 use Rattle.model.specs.Answers.{Outcome, result, refused}
 use Rattle.model.specs.Choice.{if_then_else_, refuseOn, firstFaulty, anyBelow}
 use Rattle.model.specs.Table.{sameList}
 use Rattle.model.specs.Tree.{serialForest, serial}
-use Rattle.model.specs.Names.{isLetter, isNameByte, allNameBytes, isName, sameName, linesOf, nameOf, lineWith, symbolOf, isListed, lineGround, namesOr}
+use Rattle.model.specs.Names.{IsNamesList, isLetter, isNameByte, allNameBytes, isName, sameName, linesOf, nameOf, lineWith, symbolOf, isListed, lineGround, namesOr}
 use Rattle.model.specs.Entries.{openAfter, entryGround, endsTooSoon, formOr, treeOr, levelsOf, treeFrom}
-use Rattle.model.specs.Term.{textOfTerms, textOf, step, scan, termOr, run, nameBegins, before, seenFrom, termFrom}
-use Rattle.model.specs.TermOperations.{symbolsOf, namesOf, entriesOf, bytesOf, nameGround, readTermOutcome, symbolGround, writeTermOutcome, readTermList, writeTermList}
+use Rattle.model.specs.Term.{Terms, none, term, Term, alone, AllNames, IsTerm, textOfTerms, textOf, step, scan, termOr, run, nameBegins, before, seenFrom, termFrom}
+use Rattle.model.specs.TermOperations.{symbolsOf, namesOf, treeOfTerm, AllListed, entriesOf, bytesOf, nameGround, readTermWithin, readTermOutcome, symbolGround, writeTermOutcome, readTermList, writeTermList}
+use Rattle.model.specs.Inverse.{Readable}
+use Rattle.model.specs.TermRefusals.{read21}
+use Rattle.model.proofs.Scan.{term-of}
+use Rattle.model.proofs.Names.{names-list, names-back}
+use Rattle.model.proofs.Inverse.{read-exactly}
+use Rattle.model.proofs.TermRefusals.{read-refuses}
 
 -- the bytes of an ASCII text
 unfoldable ascii : String → List ℕ
 ascii no-text = []
 ascii (and-text c cs) = code c ∷ ascii cs
 
--- ---- the bytes of names
+-- ---- the bytes of names and terms
 
 -- of the bytes below n, in order, those with the property
 unfoldable bytesWith : (ℕ → Bool) → ℕ → List ℕ
 bytesWith p zero = []
 bytesWith p (suc n) = bytesWith p n ++ (if p n then n ∷ [] else [])
 
+letters : List ℕ
+letters = ascii "ABCDEFGHIJKLMNOPQRSTUVWXYZabcdefghijklmnopqrstuvwxyz"
+
+nameBytes : List ℕ
+nameBytes = ascii "-0123456789ABCDEFGHIJKLMNOPQRSTUVWXYZ_abcdefghijklmnopqrstuvwxyz"
+
 -- "an ASCII letter"
-letters : bytesWith isLetter 256 ≡ ascii "ABCDEFGHIJKLMNOPQRSTUVWXYZabcdefghijklmnopqrstuvwxyz"
-unfolding ascii bytesWith isLetter
-letters = refl
+letter-bytes : bytesWith isLetter 256 ≡ letters
+unfolding ascii letters bytesWith isLetter
+letter-bytes = refl
 
 -- "letters, digits, `-` or `_`"
-name-bytes : bytesWith isNameByte 256 ≡ ascii "-0123456789ABCDEFGHIJKLMNOPQRSTUVWXYZ_abcdefghijklmnopqrstuvwxyz"
-unfolding ascii bytesWith isLetter isNameByte
+name-bytes : bytesWith isNameByte 256 ≡ nameBytes
+unfolding ascii nameBytes bytesWith isLetter isNameByte
 name-bytes = refl
+
+-- the outcome is a refusal at the place
+abbrev refusedAt : ℕ → Outcome → Bool
+refusedAt place (result n) = false
+refusedAt place (refused number p) = eqb p place
+
+-- the bytes that may stand in a names list between the texts: with any other the first line is faulty
+unfoldable named : (before after : List ℕ) → List ℕ
+named before after = bytesWith (λ b. not (refusedAt 0 (namesOr (before ++ b ∷ after) (result 0)))) 256
+
+-- the bytes with which a term can go on after a text
+unfoldable goesOn : List ℕ → List ℕ
+goesOn text = bytesWith (λ b. not (refusedAt (length text) (termOr (text ++ b ∷ []) (result 0)))) 256
+
+-- a name of 24 bytes
+long : List ℕ
+long = ascii "abcdefghijklmnopqrstu_-9"
+
+-- "an ASCII letter, then letters, digits, `-` or `_`"; "1 to 24 bytes"
+name-places : (named [] (ascii "\n") ≡ letters) × (named [] (ascii "a\n") ≡ letters)
+    × (named (ascii "a") (ascii "\n") ≡ ascii "\n" ++ nameBytes) × (named (ascii "a") (ascii "b\n") ≡ ascii "\n" ++ nameBytes)
+    × (named long (ascii "\n") ≡ ascii "\n")
+unfolding ascii letters nameBytes long bytesWith named refuseOn firstFaulty anyBelow sameList isLetter isNameByte allNameBytes isName sameName linesOf lineGround namesOr
+name-places = (refl, refl, refl, refl, refl)
+
+-- "A term is a name, or a name followed by `(`, one or more terms with `,` between them, and `)`. It holds no blanks": where a name is due; in
+-- a name, with brackets open or not; where a name has 24 bytes; and after `)`
+term-places : (goesOn [] ≡ letters) × (goesOn (ascii "a(") ≡ letters) × (goesOn (ascii "a(a,") ≡ letters)
+    × (goesOn (ascii "a") ≡ ascii "(" ++ nameBytes) × (goesOn (ascii "a(a") ≡ ascii "()," ++ nameBytes)
+    × (goesOn long ≡ ascii "(") × (goesOn (ascii "a(" ++ long) ≡ ascii "(),")
+    × (goesOn (ascii "a(a)") ≡ []) × (goesOn (ascii "a(a(a)") ≡ ascii "),")
+unfolding ascii letters nameBytes long bytesWith goesOn isLetter isNameByte step scan termOr
+term-places = (refl, refl, refl, refl, refl, refl, refl, refl, refl)
 
 -- ---- answers and lists
 
@@ -61,10 +108,6 @@ ab = ascii "a\nb\n"
 two : List ℕ
 two = 7 ∷ 7 ∷ []
 
--- a name of 24 bytes
-long : List ℕ
-long = ascii "abcdefghijklmnopqrstuv-9"
-
 examples : List Example
 examples =
     -- lists longer than needed, as long, and shorter; an empty one
@@ -77,6 +120,10 @@ examples =
     ∷ writes ab (2 ∷ 2 ∷ 1 ∷ 0 ∷ 0 ∷ 1 ∷ 0 ∷ 0 ∷ []) (replicate 9 7) (result 9) (ascii "b(b(a),a)")
     ∷ writes ab (1 ∷ 1 ∷ 0 ∷ 2 ∷ 0 ∷ 0 ∷ []) (replicate 5 7) (refused 24 6) (replicate 5 7)
     ∷ writes ab (1 ∷ 0 ∷ []) [] (refused 24 1) []
+    ∷ writes ab (2 ∷ 2 ∷ 1 ∷ 0 ∷ 0 ∷ 1 ∷ 0 ∷ 0 ∷ []) two (refused 24 9) two
+    -- capital letters are others; a name that begins another one
+    ∷ reads (ascii "a\nA\naB_9-\naB\n") (ascii "A(aB,aB_9-)") (replicate 6 7) (result 6) (2 ∷ 4 ∷ 0 ∷ 3 ∷ 0 ∷ 0 ∷ [])
+    ∷ writes (ascii "a\nA\naB_9-\naB\n") (2 ∷ 4 ∷ 0 ∷ 3 ∷ 0 ∷ 0 ∷ []) (replicate 11 7) (result 11) (ascii "A(aB,aB_9-)")
     -- 19: the text ends too soon; a byte with which no term can go on
     ∷ reads ab [] two (refused 19 0) two
     ∷ reads ab (ascii "a(") two (refused 19 2) two
@@ -89,7 +136,12 @@ examples =
     ∷ reads ab (ascii "a)b") two (refused 19 1) two
     ∷ reads ab (ascii "a(b)(b)") two (refused 19 4) two
     ∷ reads ab (ascii "a a") two (refused 19 1) two
+    ∷ reads ab (ascii " a") two (refused 19 0) two
+    ∷ reads ab (ascii "a(b, b)") two (refused 19 4) two
+    ∷ reads ab (ascii "a\n") two (refused 19 1) two
     ∷ reads ab (ascii "1a") two (refused 19 0) two
+    ∷ reads ab (ascii "-a") two (refused 19 0) two
+    ∷ reads ab (ascii "_a") two (refused 19 0) two
     ∷ reads ab (ascii "a\0") two (refused 19 1) two
     -- 20: the earliest name that is not listed
     ∷ reads ab (ascii "c") two (refused 20 0) two
@@ -105,6 +157,11 @@ examples =
     ∷ reads [] (ascii "a") two (refused 17 0) two
     ∷ reads (ascii "\n") (ascii "a") two (refused 17 0) two
     ∷ reads (ascii "-\na\n") (ascii "a") two (refused 17 0) two
+    ∷ reads (ascii "_a\na\n") (ascii "a") two (refused 17 0) two
+    ∷ reads (ascii "1a\na\n") (ascii "a") two (refused 17 0) two
+    ∷ reads (ascii "a\nb\r\n") (ascii "a") two (refused 17 1) two
+    ∷ reads (ascii "a") (ascii "a") two (refused 17 0) two
+    ∷ reads (ascii "\na\n") (ascii "a") two (refused 17 0) two
     ∷ writes (ascii "a\n\n") (1 ∷ 0 ∷ []) two (refused 17 1) two
     ∷ writes (ascii "a\nb") (1 ∷ 0 ∷ []) two (refused 17 1) two
     ∷ reads (ascii "a\nb\na\n") (ascii "a") two (refused 17 2) two
@@ -128,17 +185,25 @@ term-examples = refl
 
 -- ---- limits from both sides, with a later ground that holds too
 
+-- a text so many times
+unfoldable times : ℕ → List ℕ → List ℕ
+times zero text = []
+times (suc n) text = text ++ times n text
+
 -- so many names of two letters
 unfoldable manyNames : ℕ → List ℕ
 manyNames zero = []
-manyNames (suc n) = manyNames n ++ (97 + n / 26) ∷ (97 + n % 26) ∷ ascii "\n"
+manyNames (suc n) = manyNames n ++ small (n / 26) ∷ small (n % 26) ∷ ascii "\n"
+  where
+    small : ℕ → ℕ
+    small k = getD (ascii "abcdefghijklmnopqrstuvwxyz") k 0
 
 limits : List Example
 limits =
     -- a text of 65,537 bytes, and of 65,536
-    reads [] (replicate 65537 97) two (refused 17 0) two
-    ∷ reads ab (replicate 65537 97) two (refused 18 0) two
-    ∷ reads ab (replicate 65536 97) two (refused 19 24) two
+    reads [] (times 65537 (ascii "a")) two (refused 17 0) two
+    ∷ reads ab (times 65537 (ascii "a")) two (refused 18 0) two
+    ∷ reads ab (times 65536 (ascii "a")) two (refused 19 24) two
     -- a list of 4,097 entries, and of 4,096
     ∷ writes [] (replicate 4097 0) two (refused 17 0) two
     ∷ writes ab (replicate 4097 0) two (refused 12 0) two
@@ -149,5 +214,111 @@ limits =
     ∷ []
 
 limit-examples : map given limits ≡ map due limits
-unfolding limits manyNames ascii ab two refuseOn firstFaulty anyBelow sameList serialForest serial isLetter isNameByte allNameBytes isName sameName linesOf lineWith symbolOf isListed lineGround namesOr openAfter entryGround formOr treeOr textOfTerms textOf step scan termOr run nameBegins before seenFrom termFrom symbolsOf entriesOf nameGround readTermOutcome writeTermOutcome readTermList writeTermList
+unfolding limits times manyNames ascii ab two refuseOn firstFaulty anyBelow sameList serialForest serial isLetter isNameByte allNameBytes isName sameName linesOf lineWith symbolOf isListed lineGround namesOr openAfter entryGround formOr treeOr textOfTerms textOf step scan termOr run nameBegins before seenFrom termFrom symbolsOf entriesOf nameGround readTermOutcome writeTermOutcome readTermList writeTermList
 limit-examples = refl
+
+-- 21: a term of 9 bytes whose tree has 8 entries, with a limit for the entries. `readTermOutcome` is the use at 4,096, where the shortest text
+-- that is refused has 4,098 bytes, too many to compute with (below: `tree-4096` and `tree-4098`)
+abbrev within : (limit room : ℕ) → List ℕ → Outcome
+within limit room text = readTermWithin limit ab text room
+
+entry-limit :
+    -- the limit is met; it is passed
+    (within 8 8 (ascii "b(b(a),a)") ≡ result 8) × (within 7 8 (ascii "b(b(a),a)") ≡ refused 21 0) × (within 2 8 (ascii "b(b(a),a)") ≡ refused 21 0)
+    -- 21 comes before 22, and after 20
+    × (within 8 7 (ascii "b(b(a),a)") ≡ refused 22 8) × (within 7 7 (ascii "b(b(a),a)") ≡ refused 21 0) × (within 7 7 (ascii "b(b(a),c)") ≡ refused 20 7)
+unfolding ascii ab refuseOn firstFaulty anyBelow sameList serialForest serial isLetter isNameByte allNameBytes isName sameName linesOf lineWith symbolOf isListed lineGround namesOr textOfTerms textOf step scan termOr run nameBegins before seenFrom termFrom symbolsOf entriesOf nameGround
+entry-limit = (refl, refl, refl, refl, refl, refl)
+
+-- ---- 21 at its real size, by the laws: a name with n + 1 leaves in its brackets, `a(a,..,a)`
+
+unfoldable leaves : ℕ → Terms
+leaves zero = none
+leaves (suc n) = term (ascii "a") none (leaves n)
+
+abbrev wide : ℕ → Term
+wide n = record { name = ascii "a"; inner = leaves (suc n) }
+
+-- its text, and how long that is
+leaves-text : (n : ℕ) → textOfTerms (leaves (suc n)) ≡ times n (ascii "a,") ++ ascii "a"
+unfolding ascii leaves times textOfTerms
+leaves-text zero = refl
+leaves-text (suc n) = ap (λ (x : List ℕ). ascii "a," ++ x) (leaves-text n)
+
+wide-text : (n : ℕ) → textOf (wide n) ≡ ascii "a(" ++ (times n (ascii "a,") ++ ascii "a" ++ ascii ")")
+unfolding ascii leaves textOf textOfTerms
+wide-text n = append-nil _ ∙ ap (λ (x : List ℕ). ascii "a(" ++ (x ++ ascii ")")) (leaves-text n)
+
+times-length : (n : ℕ) → length (times n (ascii "a,")) ≡ n * 2
+unfolding ascii times
+times-length zero = refl
+times-length (suc n) = omega (arith, times-length n)
+
+wide-length : (n : ℕ) → length (textOf (wide n)) ≡ n * 2 + 4
+unfolding ascii
+wide-length n =
+    ap length (wide-text n)
+    ∙ omega (
+      arith,
+      times-length n,
+      length-append (times n (ascii "a,")) (ascii "a"),
+      length-append (times n (ascii "a,") ++ ascii "a") (ascii ")"),
+    )
+
+-- its names are names, and listed
+leaves-names : (n : ℕ) → AllNames (leaves n)
+unfolding ascii leaves AllNames isName allNameBytes isLetter
+leaves-names zero = tt
+leaves-names (suc n) = (refl, tt, leaves-names n)
+
+leaves-listed : (n : ℕ) → AllListed ab (leaves n)
+unfolding ascii ab leaves AllListed isListed linesOf lineWith sameName sameList
+leaves-listed zero = tt
+leaves-listed (suc n) = (refl, tt, leaves-listed n)
+
+wide-names : (n : ℕ) → AllNames (alone (wide n))
+unfolding ascii AllNames isName allNameBytes isLetter
+wide-names n = (refl, leaves-names (suc n), tt)
+
+wide-listed : (n : ℕ) → AllListed ab (alone (wide n))
+unfolding ascii ab AllListed isListed linesOf lineWith sameName sameList
+wide-listed n = (refl, leaves-listed (suc n), tt)
+
+wide-term : (n : ℕ) → IsTerm (textOf (wide n))
+wide-term n = record { is = wide n; names = wide-names n; written = refl }
+
+-- its entries
+leaves-entries : (n : ℕ) → length (serialForest (symbolsOf ab (leaves n))) ≡ n * 2
+unfolding leaves serialForest symbolsOf
+leaves-entries zero = refl
+leaves-entries (suc n) = omega (arith, leaves-entries n)
+
+wide-entries : (n : ℕ) → length (entriesOf ab (textOf (wide n))) ≡ n * 2 + 4
+unfolding entriesOf serial serialForest symbolsOf
+wide-entries n =
+    ap (λ (t : Term). length (serial (treeOfTerm ab t))) (term-of (wide n) (wide-names n))
+    ∙ omega (arith, leaves-entries (suc n), length-append (serialForest (symbolsOf ab (leaves (suc n)))) (0 ∷ []))
+
+ab-list : IsNamesList ab
+unfolding ascii ab refuseOn firstFaulty anyBelow sameList isLetter isNameByte allNameBytes isName sameName linesOf lineGround namesOr
+ab-list = names-list ab (names-back ab 0 (result 0) refl .0)
+
+-- 2,048 names, so 4,096 entries, are taken; 2,049 are 21 at 0
+tree-4096 : readTermOutcome ab (textOf (wide 2046)) 4096 ≡ result 4096
+unfolding wide-term
+tree-4096 =
+    let e = wide-entries 2046 in
+    let r : Readable ab (textOf (wide 2046)) = record {
+      list = ab-list;
+      short = omega (arith, wide-length 2046);
+      well = wide-term 2046;
+      listed = wide-listed 2046;
+      few = omega (arith, e);
+    } in
+    read-exactly ab (textOf (wide 2046)) 4096 4096 .1 (r, sym e, omega arith)
+
+tree-4098 : readTermOutcome ab (textOf (wide 2047)) 4096 ≡ refused 21 0
+unfolding wide-term
+tree-4098 =
+    read-refuses ab (textOf (wide 2047)) 4096 21 0 .1
+    (read21 refl refl ab-list (omega (arith, wide-length 2047)) (wide-term 2047) (wide-listed 2047) (omega (arith, wide-entries 2047)))

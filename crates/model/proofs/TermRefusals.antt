@@ -1,15 +1,15 @@
--- Each refusal of reading and writing a term has its ground, its number and its place.
-use Prim.Native.Nat.{ℕ, zero, suc, _+_, _≤_, _<_}
+-- A refusal of reading or writing a term is given exactly where its ground holds, with its number and at its place.
+use Prim.Native.Nat.{ℕ, zero, suc, _+_, _≤_, _<_, min}
 use mathlib.Core.Path.{_≡_, refl, ap, sym, subst, _∙_}
 use mathlib.Core.Bool.{Bool, true, false, not, _&&_, _||_}
 use mathlib.Core.Logic.{_⊎_, inl, inr}
 use mathlib.Core.List.{List, [], _∷_, _++_, append-assoc, append-nil}
 use native.Mathlib.Omega.{arith}
 use native.Mathlib.Nat.{not-suc-le-zero, le-of-suc-le-suc}
-use lib.ListN.{length, getD, take, drop, length-append, take-append-drop}
-use lib.Seq.{getD-take, length-take-le, take-take}
+use lib.ListN.{length, getD, take, drop, length-append, length-take, take-append-drop}
+use lib.Seq.{getD-take, length-take-le, take-nil, take-take}
 use lib.Dec.{eqb, ltb, leb}
-use borrow.Author.Tests.{ltb-true, ltb-false, eqb-true, eqb-false}
+use borrow.Author.Tests.{ltb-true, ltb-false, lt-ltb, le-ltb, eqb-true, eqb-false}
 use Rattle.model.specs.Answers.{Outcome, result, refused}
 use Rattle.model.specs.Choice.{if_then_else_, firstFaulty, anyBelow}
 use Rattle.model.specs.Tree.{WellFormed}
@@ -18,32 +18,52 @@ use Rattle.model.specs.Entries.{formOr, treeOr}
 use Rattle.model.specs.Term.{Terms, none, term, alone, textOfTerms, textOf, AllNames, IsTerm, Scan, passes, breaksAt, breakOr, scan, due, termOr, run, nameBegins, nameAt}
 use Rattle.model.specs.TermOperations.{AllListed, entriesOf, bytesOf, nameGround, readTermOutcome, symbolGround, writeTermOutcome}
 use Rattle.model.specs.Place.{CanGoOn, StopsAt}
-use Rattle.model.specs.TermRefusals.{firstLines, FaultyLine, Placed, namesFrom, FirstUnlisted, FirstUnnamed, ReadRefused, read17, read18, read19, read20, read21, read22, WriteRefused, write17, write12, write13, write23, write24, ReadRefuses, WriteRefuses}
-use Rattle.model.proofs.Choice.{if-zero, refused-number, refused-place, Decided, clear, faulty, decided}
+use Rattle.model.specs.TermRefusals.{firstLines, FaultyLine, Placed, namesFrom, FirstUnlisted, FirstUnnamed, ReadRefused, read17, read18, read19, read20, read21, read22, WriteRefused, write17, write12, write13, write23, write24, ReadRefuses, WriteRefuses, ReadRefusedOnce, WriteRefusedOnce, ReadElse, WriteElse}
+use Rattle.model.proofs.Choice.{if-no, if-zero, not-both, no-fault, no-fault-back, refused-number, refused-place, Decided, clear, faulty, decided}
 use Rattle.model.proofs.Bytes.{open-no-byte, close-no-byte, comma-no-byte, end-no-byte, byte-first, byte-others, name-parts, name-bytes, NoByte, run-all}
-use Rattle.model.proofs.Entries.{form-place}
-use Rattle.model.proofs.Scan.{bracketed, following, text-after, whole-term, scan-place}
-use Rattle.model.proofs.Names.{SoundLine, line-clear, clear-line, sound-line, lines-sound, some-lines, names-list, list-sound}
-use Rattle.model.proofs.Listed.{brackets-stop, comma-stop, begins, begins-next, begins-first, listed-names, symbol-low, terms-length}
+use Rattle.model.proofs.Entries.{form-place, tree-or-taken, tree-or-back}
+use Rattle.model.proofs.Scan.{bracketed, following, text-after, whole-term, scan-place, term-or-taken, term-or-back}
+use Rattle.model.proofs.Names.{Sound, SoundLine, line-clear, clear-line, sound-line, lines-sound, some-lines, names-list, list-sound, names-taken, names-back}
+use Rattle.model.proofs.Listed.{brackets-stop, comma-stop, begins, begins-next, begins-first, listed-names, names-listed, symbol-low, low-symbol, terms-length}
+use Rattle.model.proofs.Inverse.{read-back, write-back}
 
 -- ---- one ground after another
 
 -- a refusal behind a test: the test holds, and it is that refusal; or what follows is the refusal
-if-refused : (b : Bool) (m q k p : ℕ) (o : Outcome) → (if b then refused m q else o) ≡ refused k p
+pub if-refused : (b : Bool) (m q k p : ℕ) (o : Outcome) → (if b then refused m q else o) ≡ refused k p
     → ((b ≡ true) × (k ≡ m) × (p ≡ q)) ⊎ ((b ≡ false) × (o ≡ refused k p))
 if-refused true m q k p o e = inl (refl, sym (refused-number e), sym (refused-place e))
 if-refused false m q k p o e = inr (refl, e)
 
+-- an answer that is no refusal, and no result but one: it is that result
+pub result-only : (o : Outcome) (n : ℕ) → ((t : ℕ) → o ≡ result t → t ≡ n) → ((k p : ℕ) → o ≡ refused k p → ⊥) → o ≡ result n
+result-only (result t) n f h = ap result (f t refl)
+result-only (refused k p) n f h = absurd (h k p refl)
+
+-- an answer that is no result, and no refusal but one: it is that refusal
+pub refused-only : (o : Outcome) (k p : ℕ) → ((t : ℕ) → o ≡ result t → ⊥) → ((m q : ℕ) → o ≡ refused m q → (m ≡ k) × (q ≡ p)) → o ≡ refused k p
+refused-only (result t) k p h f = absurd (h t refl)
+refused-only (refused m q) k p h f = let e = f m q refl in rw (e .0, e .1)
+
+-- two places, neither before the other
+pub one-place : (p q : ℕ) → (p < q → ⊥) → (q < p → ⊥) → p ≡ q
+one-place p q f g = go (ltb p q) (ltb q p) (ltb-true p q) (ltb-true q p) (ltb-false p q) (ltb-false q p)
+  where
+    go : (a b : Bool) → (a ≡ true → p < q) → (b ≡ true → q < p) → (a ≡ false → q ≤ p) → (b ≡ false → p ≤ q) → p ≡ q
+    go true b h k m n = absurd (f (h refl))
+    go false true h k m n = absurd (g (k refl))
+    go false false h k m n = omega (arith, m refl, n refl)
+
+-- the refusal behind a test that holds
+pub if-place : (b : Bool) (m q p : ℕ) (o : Outcome) → b ≡ true → p ≡ q → (if b then refused m q else o) ≡ refused m p
+if-place b m q p o e d = rw (e, d)
+
 -- a ground that holds: its test does, and it has its number
-if-some : (b : Bool) (n : ℕ) → 0 < (if b then n else 0) → (b ≡ true) × ((if b then n else 0) ≡ n)
+pub if-some : (b : Bool) (n : ℕ) → 0 < (if b then n else 0) → (b ≡ true) × ((if b then n else 0) ≡ n)
 if-some true n p = (refl, refl)
 if-some false n p = absurd (not-suc-le-zero p)
 
 -- ---- 17
-
-take-none : (k : ℕ) → take {A = Line} k [] ≡ []
-take-none zero = refl
-take-none (suc k) = refl
 
 -- the lines of the first lines
 lines-first : (bs : List ℕ) (k : ℕ) → linesOf (firstLines bs k) ≡ take k (linesOf bs)
@@ -57,7 +77,7 @@ lines-first (b ∷ bs) (suc k) = go (eqb b 10) (linesOf bs) (lines-first bs)
         → (if t then record { bytes = []; ended = true } ∷ linesOf (firstLines bs (if t then k else suc k)) else joined b (linesOf (firstLines bs (if t then k else suc k))))
         ≡ take (suc k) (if t then record { bytes = []; ended = true } ∷ ls else joined b ls)
     go true ls ih = ap (λ (x : List Line). record { bytes = []; ended = true } ∷ x) (ih k)
-    go false [] ih = ap (joined b) (ih (suc k)) ∙ ap (λ (x : List Line). record { bytes = b ∷ []; ended = false } ∷ x) (sym (take-none k))
+    go false [] ih = ap (joined b) (ih (suc k)) ∙ ap (λ (x : List Line). record { bytes = b ∷ []; ended = false } ∷ x) (sym (take-nil k))
     go false (l ∷ ls) ih = ap (joined b) (ih (suc k))
 
 first-line : (names : List ℕ) (n k : ℕ) → k < n → lineAt (firstLines names n) k ≡ lineAt names k
@@ -127,6 +147,46 @@ names-place names k p o e = go (if-refused (eqb (length names) 0) 17 0 k p _ e)
             let r = sym d ∙ x .1 in
             inl (sym (refused-number r) ∙ ground-17 names i g, rw (← refused-place r) (faulty-line names i l h g))
 
+-- the first lines of a sound list, one or more, are sound
+front-sound : (x y : List ℕ) (n : ℕ) → linesOf x ≡ take (suc n) (linesOf y) → Sound y → Sound x
+front-sound x y n e s =
+    let count : howManyNames x ≡ min (suc n) (howManyNames y) = ap length e ∙ length-take (suc n) (linesOf y) in
+    lines-sound x (omega (arith, count, s .some)) (λ k l. same-line y x k (λ j m. sym (line j (omega (arith, count)))) (sound-line y s k (omega (arith, count))))
+  where
+    line : (j : ℕ) → j < suc n → lineAt x j ≡ lineAt y j
+    line j l = ap (λ (ls : List Line). getD ls j noLine) e ∙ getD-take (suc n) (linesOf y) j noLine l
+
+-- a names list has no faulty line
+pub faulty-no-list : (names : List ℕ) (p : ℕ) → FaultyLine names p → IsNamesList names → ⊥
+faulty-no-list names p f w =
+    let x = firstLines names (suc p) in
+    f .faulty (names-list x (front-sound x names p (lines-first names (suc p)) (list-sound names w)))
+
+-- one line at most is the first faulty one
+pub faulty-once : (names : List ℕ) (p q : ℕ) → FaultyLine names p → FaultyLine names q → p ≡ q
+faulty-once names p q f g = one-place p q (not-before p q f g) (not-before q p g f)
+  where
+    not-before : (i j : ℕ) → FaultyLine names i → FaultyLine names j → i < j → ⊥
+    not-before i j x y l = go (y .before)
+      where
+        go : (j ≡ 0) ⊎ IsNamesList (firstLines names j) → ⊥
+        go (inl e) = omega arith
+        go (inr w) =
+            let before = firstLines names (suc i) in
+            x .faulty (names-list before (front-sound before (firstLines names j) i
+            (lines-first names (suc i) ∙ sym (take-take (suc i) j (linesOf names) l) ∙ ap (take (suc i)) (sym (lines-first names j)))
+            (list-sound (firstLines names j) w)))
+
+-- a names list whose first faulty line this is: 17, at that place
+pub names-refused : (names : List ℕ) (p : ℕ) → FaultyLine names p → (o : Outcome) → namesOr names o ≡ refused 17 p
+names-refused names p f o =
+    refused-only (namesOr names o) 17 p (λ t e. faulty-no-list names p f (names-list names (names-back names t o e .0)))
+    (λ k q e. go k q (names-place names k q o e))
+  where
+    go : (k q : ℕ) → ((k ≡ 17) × FaultyLine names q) ⊎ (IsNamesList names × (o ≡ refused k q)) → (k ≡ 17) × (q ≡ p)
+    go k q (inl x) = (x .0, faulty-once names q p (x .1) f)
+    go k q (inr x) = absurd (faulty-no-list names p f (x .0))
+
 -- ---- 19
 
 -- what can be completed can be completed from each place before its end
@@ -141,15 +201,10 @@ earlier-on Whole items p q l c =
 
 -- the place of 13 and of 19 is the only one
 pub stops-once : (Whole : List ℕ → Type 0) (items : List ℕ) (p q : ℕ) → StopsAt Whole items p → StopsAt Whole items q → p ≡ q
-stops-once Whole items p q s t = go (ltb p q) (ltb q p) (ltb-true p q) (ltb-true q p) (ltb-false p q) (ltb-false q p)
+stops-once Whole items p q s t = one-place p q (not-before p q s t) (not-before q p t s)
   where
     not-before : (i j : ℕ) → StopsAt Whole items i → StopsAt Whole items j → i < j → ⊥
     not-before i j x y l = x .cannot (omega (arith, y .within)) (earlier-on Whole items (suc i) j l (y .can))
-
-    go : (a b : Bool) → (a ≡ true → p < q) → (b ≡ true → q < p) → (a ≡ false → q ≤ p) → (b ≡ false → p ≤ q) → p ≡ q
-    go true b h k f g = absurd (not-before p q s t (h refl))
-    go false true h k f g = absurd (not-before q p t s (k refl))
-    go false false h k f g = omega (arith, f refl, g refl)
 
 -- a refusal is 19, at the first byte with which no term can go on; or the text is a term, and what follows is the refusal
 pub term-place : (text : List ℕ) (k p : ℕ) (o : Outcome) → termOr text o ≡ refused k p
@@ -160,6 +215,15 @@ term-place text k p o e = go (scan (due 0) 0 text) refl e
     go : (s : Scan) → scan (due 0) 0 text ≡ s → breakOr s o ≡ refused k p → ((k ≡ 19) × StopsAt IsTerm text p) ⊎ (IsTerm text × (o ≡ refused k p))
     go passes f d = inr (whole-term text f, d)
     go (breaksAt q) f d = inl (sym (refused-number d), rw (← refused-place d) (scan-place text q f))
+
+-- a text that stops being a term: 19, at that place
+pub term-refused : (text : List ℕ) (p : ℕ) → StopsAt IsTerm text p → (o : Outcome) → termOr text o ≡ refused 19 p
+term-refused text p s o =
+    refused-only (termOr text o) 19 p (λ t e. s .short (term-or-back text t o e .0)) (λ k q e. go k q (term-place text k q o e))
+  where
+    go : (k q : ℕ) → ((k ≡ 19) × StopsAt IsTerm text q) ⊎ (IsTerm text × (o ≡ refused k q)) → (k ≡ 19) × (q ≡ p)
+    go k q (inl x) = (x .0, stops-once IsTerm text q p (x .1) s)
+    go k q (inr x) = absurd (s .short (x .0))
 
 -- ---- 20
 
@@ -303,6 +367,49 @@ listed-place names text w k p o e = go (decided (length text) (nameGround names 
         let z : 0 + i ≡ p = omega (arith, refused-place r) in
         inl (sym (refused-number r) ∙ s .1, rw (← z, ← runs-text text w) f)
 
+-- one place at most is that of the earliest name that is not listed
+pub unlisted-once : (names : List ℕ) (xs : List Placed) (p q : ℕ) → FirstUnlisted names xs p → FirstUnlisted names xs q → p ≡ q
+unfolding FirstUnlisted
+unlisted-once names (x ∷ xs) p q (inl f) (inl g) = sym (f .1) ∙ g .1
+unlisted-once names (x ∷ xs) p q (inl f) (inr g) = absurd (not-both (isListed names (x .name)) (g .0) (f .0))
+unlisted-once names (x ∷ xs) p q (inr f) (inl g) = absurd (not-both (isListed names (x .name)) (f .0) (g .0))
+unlisted-once names (x ∷ xs) p q (inr f) (inr g) = unlisted-once names xs p q (f .1) (g .1)
+
+unlisted-parts : (names : List ℕ) (xs ys : List Placed) (p : ℕ) → FirstUnlisted names (xs ++ ys) p → FirstUnlisted names xs p ⊎ FirstUnlisted names ys p
+unfolding FirstUnlisted
+unlisted-parts names [] ys p f = inr f
+unlisted-parts names (x ∷ xs) ys p (inl f) = inl (inl f)
+unlisted-parts names (x ∷ xs) ys p (inr f) = go (unlisted-parts names xs ys p (f .1))
+  where
+    go : FirstUnlisted names xs p ⊎ FirstUnlisted names ys p → FirstUnlisted names (x ∷ xs) p ⊎ FirstUnlisted names ys p
+    go (inl g) = inl (inr (f .0, g))
+    go (inr g) = inr g
+
+-- where all names are listed there is none
+pub unlisted-some : (names : List ℕ) (f : Terms) (at p : ℕ) → FirstUnlisted names (namesFrom at f) p → AllListed names f → ⊥
+unfolding FirstUnlisted namesFrom AllListed
+unlisted-some names none at p u a = u
+unlisted-some names (term n inner right) at p (inl u) a = not-both (isListed names n) (a .0) (u .0)
+unlisted-some names (term n inner right) at p (inr u) a =
+    go (unlisted-parts names (namesFrom (at + length n + 1) inner) (namesFrom (at + length n + length (bracketed inner) + 1) right) p (u .1))
+    (λ g. unlisted-some names inner _ p g (a .1)) (λ g. unlisted-some names right _ p g (a .2))
+  where
+    go : {A B : Type 0} → A ⊎ B → (A → ⊥) → (B → ⊥) → ⊥
+    go (inl x) f g = f x
+    go (inr x) f g = g x
+
+-- a term with a name that is not listed: 20, at the first byte of the earliest such name
+pub listed-refused : (names text : List ℕ) (w : IsTerm text) (p : ℕ) → FirstUnlisted names (namesFrom 0 (alone (w .is))) p
+    → (o : Outcome) → firstFaulty (length text) (nameGround names text) o ≡ refused 20 p
+listed-refused names text w p f o =
+    refused-only (firstFaulty (length text) (nameGround names text) o) 20 p
+    (λ t e. unlisted-some names (alone (w .is)) 0 p f (listed-names names text w (no-fault-back (length text) t (nameGround names text) o e .0)))
+    (λ k q e. go k q (listed-place names text w k q o e))
+  where
+    go : (k q : ℕ) → ((k ≡ 20) × FirstUnlisted names (namesFrom 0 (alone (w .is))) q) ⊎ (AllListed names (alone (w .is)) × (o ≡ refused k q)) → (k ≡ 20) × (q ≡ p)
+    go k q (inl x) = (x .0, unlisted-once names (namesFrom 0 (alone (w .is))) q p (x .1) f)
+    go k q (inr x) = absurd (unlisted-some names (alone (w .is)) 0 p f (x .0))
+
 -- ---- 12 and 13, and 23
 
 -- a refusal is 12, or 13 at its place; or the list is a tree, and what follows is the refusal
@@ -339,6 +446,40 @@ named-place names tree k p o e = go (decided (length tree) (symbolGround names t
         record { within = l; above = ltb-true (howManyNames names) (getD tree i 0) (s .0); before = λ j m. symbol-low names tree j (h j m) } in
         inl (sym (refused-number r) ∙ s .1, rw (← refused-place r) f)
 
+-- a list of at most 4,096 entries that stops being a tree: 13, at that place
+pub tree-refused : (tree : List ℕ) (p : ℕ) → length tree ≤ 4096 → StopsAt WellFormed tree p → (o : Outcome) → treeOr tree o ≡ refused 13 p
+tree-refused tree p l s o =
+    refused-only (treeOr tree o) 13 p (λ t e. s .short (tree-or-back tree t o e .0)) (λ k q e. go k q (tree-place tree k q o e))
+  where
+    go : (k q : ℕ) → TreePlace tree k q o → (k ≡ 13) × (q ≡ p)
+    go k q (long x y m) = absurd (omega arith)
+    go k q (no-tree x m r) = (x, stops-once WellFormed tree q p r s)
+    go k q (after m w x) = absurd (s .short w)
+
+-- a list of more than 4,096 entries: 12
+pub tree-long : (tree : List ℕ) (p : ℕ) → 4096 < length tree → p ≡ 0 → (o : Outcome) → treeOr tree o ≡ refused 12 p
+unfolding treeOr
+tree-long tree p l d o = if-place (ltb 4096 (length tree)) 12 0 p (formOr tree o) (lt-ltb 4096 (length tree) l) d
+
+-- one entry at most is the first symbol above the count of names
+pub unnamed-once : (names tree : List ℕ) (p q : ℕ) → FirstUnnamed names tree p → FirstUnnamed names tree q → p ≡ q
+unnamed-once names tree p q f g = one-place p q (λ l. omega (arith, g .before p l, f .above)) (λ l. omega (arith, f .before q l, g .above))
+
+-- a tree with a symbol above the count of names: 23, at the first such entry
+pub named-refused : (names tree : List ℕ) (p : ℕ) → FirstUnnamed names tree p
+    → (o : Outcome) → firstFaulty (length tree) (symbolGround names tree) o ≡ refused 23 p
+named-refused names tree p f o =
+    refused-only (firstFaulty (length tree) (symbolGround names tree) o) 23 p
+    (λ t e. low (λ i l. symbol-low names tree i (no-fault-back (length tree) t (symbolGround names tree) o e .0 i l)))
+    (λ k q e. go k q (named-place names tree k q o e))
+  where
+    low : ((i : ℕ) → i < length tree → getD tree i 0 ≤ howManyNames names) → ⊥
+    low h = omega (arith, h p (f .within), f .above)
+
+    go : (k q : ℕ) → ((k ≡ 23) × FirstUnnamed names tree q) ⊎ (((i : ℕ) → i < length tree → getD tree i 0 ≤ howManyNames names) × (o ≡ refused k q)) → (k ≡ 23) × (q ≡ p)
+    go k q (inl x) = (x .0, unnamed-once names tree q p (x .1) f)
+    go k q (inr x) = absurd (low (x .0))
+
 -- ---- the operations
 
 short-place : (room needed m k p : ℕ) → (if ltb room needed then refused m needed else result needed) ≡ refused k p → (k ≡ m) × (p ≡ needed) × (room < p)
@@ -348,71 +489,155 @@ short-place room needed m k p e = go (if-refused (ltb room needed) m needed k p 
     go (inl x) = (x .1, x .2, omega (arith, x .2, ltb-true room needed (x .0)))
     go (inr x) = let y = x .1 in let z : _≡_ {A = ℕ} 0 1 = cc in absurd (omega arith)
 
+module _ (names text : List ℕ) (room : ℕ) where
+  -- reading a term: what follows 20, what follows 19, and what follows 17
+  abbrev entries : ℕ
+  entries = length (entriesOf names text)
+
+  abbrev entered : Outcome
+  entered = if ltb 4096 entries then refused 21 0 else if ltb room entries then refused 22 entries else result entries
+
+  abbrev listing : Outcome
+  listing = firstFaulty (length text) (nameGround names text) entered
+
+  abbrev reading : Outcome
+  reading = if ltb 65536 (length text) then refused 18 0 else termOr text listing
+
+  -- a refusal has its ground
+  read-ground : (k p : ℕ) → readTermOutcome names text room ≡ refused k p → ReadRefused names text room k p
+  unfolding readTermOutcome
+  read-ground k p e = by-names (names-place names k p reading e)
+    where
+      by-entries : IsNamesList names → length text ≤ 65536 → (w : IsTerm text) → AllListed names (alone (w .is))
+          → ((ltb 4096 entries ≡ true) × (k ≡ 21) × (p ≡ 0)) ⊎ ((ltb 4096 entries ≡ false) × ((if ltb room entries then refused 22 entries else result entries) ≡ refused k p))
+          → ReadRefused names text room k p
+      by-entries n l w a (inl x) = read21 (x .1) (x .2) n l w a (ltb-true 4096 entries (x .0))
+      by-entries n l w a (inr x) =
+          let s = short-place room entries 22 k p (x .1) in
+          read22 (s .0) (s .1) (record { list = n; short = l; well = w; listed = a; few = ltb-false 4096 entries (x .0) }) (s .2)
+
+      by-listed : IsNamesList names → length text ≤ 65536 → (w : IsTerm text)
+          → ((k ≡ 20) × FirstUnlisted names (namesFrom 0 (alone (w .is))) p) ⊎ (AllListed names (alone (w .is)) × (entered ≡ refused k p)) → ReadRefused names text room k p
+      by-listed n l w (inl x) = read20 (x .0) n l w (x .1)
+      by-listed n l w (inr x) = by-entries n l w (x .0) (if-refused (ltb 4096 entries) 21 0 k p _ (x .1))
+
+      by-term : IsNamesList names → length text ≤ 65536 → ((k ≡ 19) × StopsAt IsTerm text p) ⊎ (IsTerm text × (listing ≡ refused k p)) → ReadRefused names text room k p
+      by-term n l (inl x) = read19 (x .0) n l (x .1)
+      by-term n l (inr x) = by-listed n l (x .0) (listed-place names text (x .0) k p entered (x .1))
+
+      by-length : IsNamesList names → ((ltb 65536 (length text) ≡ true) × (k ≡ 18) × (p ≡ 0)) ⊎ ((ltb 65536 (length text) ≡ false) × (termOr text listing ≡ refused k p))
+          → ReadRefused names text room k p
+      by-length n (inl x) = read18 (x .1) (x .2) n (ltb-true 65536 (length text) (x .0))
+      by-length n (inr x) = by-term n (ltb-false 65536 (length text) (x .0)) (term-place text k p listing (x .1))
+
+      by-names : ((k ≡ 17) × FaultyLine names p) ⊎ (IsNamesList names × (reading ≡ refused k p)) → ReadRefused names text room k p
+      by-names (inl x) = read17 (x .0) (x .1)
+      by-names (inr x) = by-length (x .0) (if-refused (ltb 65536 (length text)) 18 0 k p _ (x .1))
+
+  -- a ground has its refusal
+  ground-read : (k p : ℕ) → ReadRefused names text room k p → readTermOutcome names text room ≡ refused k p
+  unfolding readTermOutcome
+  ground-read k p g = by g
+    where
+      past-17 : IsNamesList names → namesOr names reading ≡ reading
+      past-17 n = names-taken names (list-sound names n) reading
+
+      past-18 : IsNamesList names → length text ≤ 65536 → namesOr names reading ≡ termOr text listing
+      past-18 n l = past-17 n ∙ if-no (ltb 65536 (length text)) _ _ (le-ltb 65536 (length text) l)
+
+      past-19 : IsNamesList names → length text ≤ 65536 → IsTerm text → namesOr names reading ≡ listing
+      past-19 n l w = past-18 n l ∙ term-or-taken text w listing
+
+      past-20 : IsNamesList names → length text ≤ 65536 → (w : IsTerm text) → AllListed names (alone (w .is)) → namesOr names reading ≡ entered
+      past-20 n l w a = past-19 n l w ∙ no-fault (length text) (nameGround names text) entered (names-listed names text w a)
+
+      by : ReadRefused names text room k p → namesOr names reading ≡ refused k p
+      by (read17 e f) = rw e (names-refused names p f reading)
+      by (read18 e d n l) = rw e (past-17 n ∙ if-place (ltb 65536 (length text)) 18 0 p _ (lt-ltb 65536 (length text) l) d)
+      by (read19 e n l s) = rw e (past-18 n l ∙ term-refused text p s listing)
+      by (read20 e n l w f) = rw e (past-19 n l w ∙ listed-refused names text w p f entered)
+      by (read21 e d n l w a m) = rw e (past-20 n l w a ∙ if-place (ltb 4096 entries) 21 0 p _ (lt-ltb 4096 entries m) d)
+      by (read22 e d r l) =
+          rw e
+          (past-20 (r .list) (r .short) (r .well) (r .listed)
+          ∙ if-no (ltb 4096 entries) _ _ (le-ltb 4096 entries (r .few))
+          ∙ if-place (ltb room entries) 22 entries p _ (lt-ltb room entries (omega arith)) d)
+
 pub read-refuses : ReadRefuses
-unfolding readTermOutcome
-read-refuses names text room k p e = by-names (names-place names k p _ e)
-  where
-    needed : ℕ
-    needed = length (entriesOf names text)
+read-refuses names text room k p = (read-ground names text room k p, ground-read names text room k p)
 
-    fits : Outcome
-    fits = if ltb 4096 needed then refused 21 0 else if ltb room needed then refused 22 needed else result needed
+pub read-refused-once : ReadRefusedOnce
+read-refused-once names text room k p m q f g =
+    let e = sym (ground-read names text room k p f) ∙ ground-read names text room m q g in
+    (refused-number e, refused-place e)
 
-    by-fits : IsNamesList names → length text ≤ 65536 → (w : IsTerm text) → AllListed names (alone (w .is))
-        → ((ltb 4096 needed ≡ true) × (k ≡ 21) × (p ≡ 0)) ⊎ ((ltb 4096 needed ≡ false) × ((if ltb room needed then refused 22 needed else result needed) ≡ refused k p))
-        → ReadRefused names text room k p
-    by-fits n l w a (inl x) = read21 (x .1) (x .2) n l w a (ltb-true 4096 needed (x .0))
-    by-fits n l w a (inr x) =
-        let s = short-place room needed 22 k p (x .1) in
-        read22 (s .0) (s .1) (record { list = n; short = l; well = w; listed = a; few = ltb-false 4096 needed (x .0) }) (s .2)
+pub read-else : ReadElse
+read-else names text room h =
+    result-only (readTermOutcome names text room) _ (λ t e. read-back names text room t e .1) (λ k p e. h k p (read-ground names text room k p e))
 
-    by-listed : IsNamesList names → length text ≤ 65536 → (w : IsTerm text)
-        → ((k ≡ 20) × FirstUnlisted names (namesFrom 0 (alone (w .is))) p) ⊎ (AllListed names (alone (w .is)) × (fits ≡ refused k p)) → ReadRefused names text room k p
-    by-listed n l w (inl x) = read20 (x .0) n l w (x .1)
-    by-listed n l w (inr x) = by-fits n l w (x .0) (if-refused (ltb 4096 needed) 21 0 k p _ (x .1))
+module _ (names tree : List ℕ) (room : ℕ) where
+  -- writing a term: what follows 23, and what follows 13
+  abbrev bytes : ℕ
+  bytes = length (bytesOf names tree)
 
-    by-term : IsNamesList names → length text ≤ 65536
-        → ((k ≡ 19) × StopsAt IsTerm text p) ⊎ (IsTerm text × (firstFaulty (length text) (nameGround names text) fits ≡ refused k p)) → ReadRefused names text room k p
-    by-term n l (inl x) = read19 (x .0) n l (x .1)
-    by-term n l (inr x) = by-listed n l (x .0) (listed-place names text (x .0) k p fits (x .1))
+  abbrev lettered : Outcome
+  lettered = if ltb room bytes then refused 24 bytes else result bytes
 
-    by-length : IsNamesList names
-        → ((ltb 65536 (length text) ≡ true) × (k ≡ 18) × (p ≡ 0))
-        ⊎ ((ltb 65536 (length text) ≡ false) × (termOr text (firstFaulty (length text) (nameGround names text) fits) ≡ refused k p))
-        → ReadRefused names text room k p
-    by-length n (inl x) = read18 (x .1) (x .2) n (ltb-true 65536 (length text) (x .0))
-    by-length n (inr x) = by-term n (ltb-false 65536 (length text) (x .0)) (term-place text k p _ (x .1))
+  abbrev naming : Outcome
+  naming = firstFaulty (length tree) (symbolGround names tree) lettered
 
-    by-names : ((k ≡ 17) × FaultyLine names p)
-        ⊎ (IsNamesList names × ((if ltb 65536 (length text) then refused 18 0 else termOr text (firstFaulty (length text) (nameGround names text) fits)) ≡ refused k p))
-        → ReadRefused names text room k p
-    by-names (inl x) = read17 (x .0) (x .1)
-    by-names (inr x) = by-length (x .0) (if-refused (ltb 65536 (length text)) 18 0 k p _ (x .1))
+  -- a refusal has its ground
+  write-ground : (k p : ℕ) → writeTermOutcome names tree room ≡ refused k p → WriteRefused names tree room k p
+  unfolding writeTermOutcome
+  write-ground k p e = by-names (names-place names k p _ e)
+    where
+      by-named : IsNamesList names → length tree ≤ 4096 → WellFormed tree
+          → ((k ≡ 23) × FirstUnnamed names tree p) ⊎ (((i : ℕ) → i < length tree → getD tree i 0 ≤ howManyNames names) × (lettered ≡ refused k p))
+          → WriteRefused names tree room k p
+      by-named n l w (inl x) = write23 (x .0) n l w (x .1)
+      by-named n l w (inr x) =
+          let s = short-place room bytes 24 k p (x .1) in
+          write24 (s .0) (s .1) (record { list = n; few = l; well = w; named = x .0 }) (s .2)
+
+      by-tree : IsNamesList names → TreePlace tree k p naming → WriteRefused names tree room k p
+      by-tree n (long x y l) = write12 x y n l
+      by-tree n (no-tree x l s) = write13 x n l s
+      by-tree n (after l w x) = by-named n l w (named-place names tree k p lettered x)
+
+      by-names : ((k ≡ 17) × FaultyLine names p) ⊎ (IsNamesList names × (treeOr tree naming ≡ refused k p)) → WriteRefused names tree room k p
+      by-names (inl x) = write17 (x .0) (x .1)
+      by-names (inr x) = by-tree (x .0) (tree-place tree k p naming (x .1))
+
+  -- a ground has its refusal
+  ground-write : (k p : ℕ) → WriteRefused names tree room k p → writeTermOutcome names tree room ≡ refused k p
+  unfolding writeTermOutcome
+  ground-write k p g = by g
+    where
+      past-17 : IsNamesList names → namesOr names (treeOr tree naming) ≡ treeOr tree naming
+      past-17 n = names-taken names (list-sound names n) (treeOr tree naming)
+
+      past-13 : IsNamesList names → length tree ≤ 4096 → WellFormed tree → namesOr names (treeOr tree naming) ≡ naming
+      past-13 n l w = past-17 n ∙ tree-or-taken tree w l naming
+
+      by : WriteRefused names tree room k p → namesOr names (treeOr tree naming) ≡ refused k p
+      by (write17 e f) = rw e (names-refused names p f (treeOr tree naming))
+      by (write12 e d n l) = rw e (past-17 n ∙ tree-long tree p l d naming)
+      by (write13 e n l s) = rw e (past-17 n ∙ tree-refused tree p l s naming)
+      by (write23 e n l w f) = rw e (past-13 n l w ∙ named-refused names tree p f lettered)
+      by (write24 e d w l) =
+          rw e
+          (past-13 (w .list) (w .few) (w .well)
+          ∙ no-fault (length tree) (symbolGround names tree) lettered (λ i m. low-symbol names tree i (w .named i m))
+          ∙ if-place (ltb room bytes) 24 bytes p _ (lt-ltb room bytes (omega arith)) d)
 
 pub write-refuses : WriteRefuses
-unfolding writeTermOutcome
-write-refuses names tree room k p e = by-names (names-place names k p _ e)
-  where
-    needed : ℕ
-    needed = length (bytesOf names tree)
+write-refuses names tree room k p = (write-ground names tree room k p, ground-write names tree room k p)
 
-    fits : Outcome
-    fits = if ltb room needed then refused 24 needed else result needed
+pub write-refused-once : WriteRefusedOnce
+write-refused-once names tree room k p m q f g =
+    let e = sym (ground-write names tree room k p f) ∙ ground-write names tree room m q g in
+    (refused-number e, refused-place e)
 
-    by-named : IsNamesList names → length tree ≤ 4096 → WellFormed tree
-        → ((k ≡ 23) × FirstUnnamed names tree p) ⊎ (((i : ℕ) → i < length tree → getD tree i 0 ≤ howManyNames names) × (fits ≡ refused k p))
-        → WriteRefused names tree room k p
-    by-named n l w (inl x) = write23 (x .0) n l w (x .1)
-    by-named n l w (inr x) =
-        let s = short-place room needed 24 k p (x .1) in
-        write24 (s .0) (s .1) (record { list = n; few = l; well = w; named = x .0 }) (s .2)
-
-    by-tree : IsNamesList names → TreePlace tree k p (firstFaulty (length tree) (symbolGround names tree) fits) → WriteRefused names tree room k p
-    by-tree n (long x y l) = write12 x y n l
-    by-tree n (no-tree x l s) = write13 x n l s
-    by-tree n (after l w x) = by-named n l w (named-place names tree k p fits x)
-
-    by-names : ((k ≡ 17) × FaultyLine names p) ⊎ (IsNamesList names × (treeOr tree (firstFaulty (length tree) (symbolGround names tree) fits) ≡ refused k p))
-        → WriteRefused names tree room k p
-    by-names (inl x) = write17 (x .0) (x .1)
-    by-names (inr x) = by-tree (x .0) (tree-place tree k p _ (x .1))
+pub write-else : WriteElse
+write-else names tree room h =
+    result-only (writeTermOutcome names tree room) _ (λ t e. write-back names tree room t e .1) (λ k p e. h k p (write-ground names tree room k p e))

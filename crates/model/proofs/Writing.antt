@@ -6,6 +6,7 @@ use native.Mathlib.Omega.{arith}
 use native.Mathlib.Numerals.{add-one}
 use lib.ListN.{length, take, drop, set, length-append, length-drop}
 use lib.Seq.{take-at, drop-at, drop-drop, append-snoc, set-split}
+use Rattle.model.specs.Answers.{Outcome, result, refused, lentAfter, Lent}
 
 -- of all that is to be written, the rest is not written yet; the next place comes after what is
 pub record Writing (old new all rest : List ℕ) (at : ℕ) : Type 0 where
@@ -62,3 +63,28 @@ writing-last {old} {new} {all} {at} w =
 -- one item is set
 pub one-set : (old : List ℕ) (at x : ℕ) → at < length old → set old at x ≡ take at old ++ (x ∷ []) ++ drop (at + 1) old
 one-set old at x l = set-split old at x l ∙ ap (λ (i : ℕ). take at old ++ x ∷ drop i old) (sym (add-one at)) ∙ sym (append-snoc (take at old) x (drop (at + 1) old))
+
+-- ---- what a lent list holds after an answer
+
+-- after a result: all of it; and its front
+pub lent-all : (o : Outcome) (n : ℕ) (written old : List ℕ) → o ≡ result n → lentAfter o written old ≡ written ++ drop (length written) old
+lent-all o n written old e = rw e
+
+pub lent-front : (o : Outcome) (n : ℕ) (written old : List ℕ) → o ≡ result n → n ≡ length written → take n (lentAfter o written old) ≡ written
+lent-front o n written old e l = ap (take n) (lent-all o n written old e) ∙ take-at written (drop (length written) old) n (sym l)
+
+-- a refusal writes nothing; a result's entries stand at the front, and the later ones stay
+pub lent-told : (o : Outcome) (written old : List ℕ) → ((n : ℕ) → o ≡ result n → (n ≡ length written) × (n ≤ length old)) → Lent o written old (lentAfter o written old)
+lent-told o written old h =
+    record {
+      kept = λ k p e. rw e;
+      front = λ n e. (h n e .0, lent-front o n written old e (h n e .0));
+      later = λ n e. ap (drop n) (lent-all o n written old e) ∙ drop-at written (drop (length written) old) n (sym (h n e .0)) ∙ ap (λ (i : ℕ). drop i old) (sym (h n e .0));
+      same = whole o h;
+    }
+  where
+    whole : (o : Outcome) → ((n : ℕ) → o ≡ result n → (n ≡ length written) × (n ≤ length old)) → length (lentAfter o written old) ≡ length old
+    whole (result n) h =
+        let l = h n refl in
+        omega (arith, length-append written (drop (length written) old), length-drop (length written) old, l .0, l .1)
+    whole (refused k p) h = refl

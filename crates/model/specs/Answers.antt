@@ -1,7 +1,8 @@
 -- Answers, and document 01's number for each kind of refusal. Assumes nothing: these are definitions.
 use Prim.Native.Nat.{ℕ}
+use mathlib.Core.Path.{_≡_}
 use mathlib.Core.List.{List, _++_}
-use lib.ListN.{length, drop}
+use lib.ListN.{length, take, drop}
 use Rattle.model.specs.declared.Kind.{Kind}
 use Rattle.model.specs.declared.Kind.the-variants.{TooManyStates, CutRow, TooManyRowsOrArguments, NotInRange, ArgumentNotBelowTarget, RepeatedRow, AcceptingEntry, AcceptingTooLong, CountAboveLimit, LongestTreeAboveLimit, TotalAboveLimit, TreeTooLong, NotATree, NotAccepted, NumberNotBelowTotal, ShortTreeList, FaultyNames, TextTooLong, NotATerm, UnlistedName, TermTreeTooLong, ShortTermTree, UnnamedSymbol, ShortTextList}
 use Rattle.model.specs.declared.Refusal.{Refusal}
@@ -77,3 +78,15 @@ outcome (Refused r) = refusedBy r
 abbrev pub lentAfter : Outcome → (written old : List ℕ) → List ℕ
 lentAfter (result n) written old = written ++ drop (length written) old
 lentAfter (refused number place) written old = old
+
+-- what a lent list holds after an operation that writes at the front of it, by its answer and without `lentAfter` (for terms the laws
+-- `read-lent` and `write-lent`)
+pub record Lent (answer : Outcome) (written old after : List ℕ) : Type 0 where
+  -- "A refusal writes to no lent list."
+  pub kept : (number place : ℕ) → answer ≡ refused number place → after ≡ old
+  -- "gives the count of .. written at the front"
+  pub front : (n : ℕ) → answer ≡ result n → (n ≡ length written) × (take n after ≡ written)
+  -- "later entries stay"; "later bytes stay"
+  pub later : (n : ℕ) → answer ≡ result n → drop n after ≡ drop n old
+  -- a list becomes no longer and no shorter
+  pub same : length after ≡ length old

@@ -1,12 +1,14 @@
--- What reading and writing a term take, and that they are inverse on what both take. Assumes nothing: these are definitions.
+-- What reading and writing a term take, that they are inverse on what both take, what the lent lists then hold, and what a term and its
+-- entries are by texts alone. Assumes nothing: these are definitions.
 use Prim.Native.Nat.{ℕ, _≤_, _<_}
 use mathlib.Core.Path.{_≡_}
-use mathlib.Core.Logic.{_↔_}
-use mathlib.Core.List.{List, _++_}
+use mathlib.Core.Bool.{true}
+use mathlib.Core.Logic.{_⊎_, _↔_}
+use mathlib.Core.List.{List, [], _∷_, _++_}
 use lib.ListN.{length, getD, take, drop}
-use Rattle.model.specs.Answers.{result}
+use Rattle.model.specs.Answers.{result, Lent}
 use Rattle.model.specs.Tree.{WellFormed}
-use Rattle.model.specs.Names.{IsNamesList, howManyNames}
+use Rattle.model.specs.Names.{isName, IsNamesList, howManyNames, symbolOf}
 use Rattle.model.specs.Term.{alone, IsTerm}
 use Rattle.model.specs.TermOperations.{AllListed, entriesOf, bytesOf, readTermOutcome, writeTermOutcome, readTermList, writeTermList}
 
@@ -52,3 +54,42 @@ ReadWrites =
     → (lent : List ℕ) → length text ≤ length lent
     → (writeTermOutcome names (take n (readTermList names text tree)) (length lent) ≡ result (length text))
     × (writeTermList names (take n (readTermList names text tree)) lent ≡ text ++ drop (length text) lent)
+
+-- what the lent lists then hold: reading a term writes its entries, writing a term its bytes
+abbrev pub ReadLent : Type 0
+ReadLent = (names text tree : List ℕ) → Lent (readTermOutcome names text (length tree)) (entriesOf names text) tree (readTermList names text tree)
+
+abbrev pub WriteLent : Type 0
+WriteLent = (names tree text : List ℕ) → Lent (writeTermOutcome names tree (length text)) (bytesOf names tree) text (writeTermList names tree text)
+
+-- What a term is and what its entries are, by texts alone: so no definition bounds how many terms stand in brackets, or how deep
+
+-- texts with `,` between them
+unfoldable pub commas : List (List ℕ) → List ℕ
+commas [] = []
+commas (t ∷ []) = t
+commas (t ∷ u ∷ us) = t ++ 44 ∷ commas (u ∷ us)
+
+-- "a name followed by `(`, one or more terms with `,` between them, and `)`"
+pub record Applied (text : List ℕ) : Type 0 where
+  pub name : List ℕ
+  pub named : isName name ≡ true
+  pub terms : List (List ℕ)
+  pub some : 1 ≤ length terms
+  pub each : (k : ℕ) → k < length terms → IsTerm (getD terms k [])
+  pub written : name ++ (40 ∷ (commas terms ++ 41 ∷ [])) ≡ text
+
+-- "A term is a name, or a name followed by `(`, one or more terms with `,` between them, and `)`."
+abbrev pub TermSentence : Type 0
+TermSentence = (text : List ℕ) → IsTerm text ↔ ((isName text ≡ true) ⊎ Applied text)
+
+-- "its children one after another": the entries of each
+unfoldable pub entriesEach : (names : List ℕ) → List (List ℕ) → List ℕ
+entriesEach names [] = []
+entriesEach names (t ∷ ts) = entriesOf names t ++ entriesEach names ts
+
+-- "the symbol of a node, its children one after another, then the bar, which is entry 0"
+abbrev pub EntriesSentence : Type 0
+EntriesSentence =
+    (names text : List ℕ) → (isName text ≡ true → entriesOf names text ≡ symbolOf names text ∷ 0 ∷ [])
+    × ((a : Applied text) → entriesOf names text ≡ symbolOf names (a .name) ∷ (entriesEach names (a .terms) ++ 0 ∷ []))

@@ -47,7 +47,7 @@ unfoldable pub AllNames : Terms → Type 0
 AllNames none = Unit
 AllNames (term n inner right) = (isName n ≡ true) × AllNames inner × AllNames right
 
--- the text is a term
+-- the text is a term (once more, by texts alone: the law `term-sentence`)
 pub record IsTerm (text : List ℕ) : Type 0 where
   pub is : Term
   pub names : AllNames (alone is)

@@ -29,7 +29,7 @@ treeOfTerm names t = record { symbol = symbolOf names (t .name); children = symb
 abbrev pub termOfTree : (names : List ℕ) → Tree → Term
 termOfTree names t = record { name = nameOf names (t .symbol); inner = namesOf names (t .children) }
 
--- the entries of the tree that a term is
+-- the entries of the tree that a term is (once more, by texts alone: the law `entries-sentence`)
 unfoldable pub entriesOf : (names text : List ℕ) → List ℕ
 entriesOf names text = serial (treeOfTerm names (termFrom text))
 
@@ -46,9 +46,9 @@ AllListed names (term n inner right) = (isListed names n ≡ true) × AllListed 
 unfoldable pub nameGround : (names text : List ℕ) → ℕ → ℕ
 nameGround names text i = if nameBegins text i && not (isListed names (nameAt text i)) then 20 else 0
 
--- "Reading a term gives the count of tree entries written at the front", into a list of so many entries
-unfoldable pub readTermOutcome : (names text : List ℕ) (room : ℕ) → Outcome
-readTermOutcome names text room =
+-- reading a term, with a limit for the entries of its tree
+abbrev pub readTermWithin : (limit : ℕ) (names text : List ℕ) (room : ℕ) → Outcome
+readTermWithin limit names text room =
     let needed = length (entriesOf names text) in
     -- "A names list against the rules above is 17"
     namesOr names
@@ -58,9 +58,13 @@ readTermOutcome names text room =
     termOr text
     (firstFaulty (length text) (nameGround names text)
     -- "A tree above 4,096 entries is 21."
-    (if ltb 4096 needed then refused 21 0 else
+    (if ltb limit needed then refused 21 0 else
     -- "A short lent list is 22, with the entries needed."
     if ltb room needed then refused 22 needed else result needed)))
+
+-- "Reading a term gives the count of tree entries written at the front", into a list of so many entries
+unfoldable pub readTermOutcome : (names text : List ℕ) (room : ℕ) → Outcome
+readTermOutcome names text room = readTermWithin 4096 names text room
 
 -- "A symbol above the count of names is 23, at the first such entry."
 unfoldable pub symbolGround : (names tree : List ℕ) → ℕ → ℕ
