@@ -84,6 +84,7 @@ module _ {states : 鈩晑 {rows offsets first after cs ls sums : List 鈩晑 {q : 鈩
     chained = g .chained;
     state = omega (arith, g .ordered .few);
     sums-long = x .sums-long;
+    short = 位 r l e. g .ordered .short r l;
     counted = 位 r l e. record {
       placed = 位 k m. omega (arith, lower r l e k m, g .ordered .few);
       small = 位 k m. small (getD (rowNumbered rows r .args) k 0) (lower r l e k m) .0;

@@ -79,13 +79,9 @@ pub length-goes : (f : ℕ → ℕ) (args : List ℕ) (i : ℕ) → i < length a
     → n + x + sum (map f (drop (i + 1) args)) ≡ all
 length-goes f args i lt n x all e h = omega (arith, sum-next f args i lt)
 
--- as soon as they are above 4,096, the row's are
-pub length-passes : (n rest all : ℕ) → n + rest ≡ all → 4096 < n → lengthCeiling ≡ min all lengthCeiling
-length-passes n rest all e l = omega arith
-
-pub length-ends : (f : ℕ → ℕ) (args : List ℕ) (i n all : ℕ) → length args ≤ i → n ≤ 4096 → n + sum (map f (drop i args)) ≡ all → n ≡ min all lengthCeiling
+pub length-ends : (f : ℕ → ℕ) (args : List ℕ) (i n all : ℕ) → length args ≤ i → n + sum (map f (drop i args)) ≡ all → n ≡ all
 unfolding sum
-length-ends f args i n all ge le h = omega (arith, rw (drop-of-length-le args {i = i} ge) at h)
+length-ends f args i n all ge h = omega (arith, rw (drop-of-length-le args {i = i} ge) at h)
 
 pub product-begins : (p l : ℕ) → min (1 * p) l ≡ min p l
 product-begins p l = rw (one-mul p)

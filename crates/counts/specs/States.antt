@@ -78,6 +78,7 @@ pub record Countable (rows offsets first after cs ls sums : List ℕ) (q : ℕ) 
   pub chained : Chained rows 0 (howManyRows rows) first after
   pub state : q < 256
   pub sums-long : length sums ≡ 1024
+  pub short : (r : ℕ) → r < howManyRows rows → target rows r ≡ q → length (rowNumbered rows r .args) ≤ 16
   pub counted : (r : ℕ) → r < howManyRows rows → target rows r ≡ q → Within countLimit cs (rowNumbered rows r .args)
   pub measured : (r : ℕ) → r < howManyRows rows → target rows r ≡ q → Within 4096 ls (rowNumbered rows r .args)
 

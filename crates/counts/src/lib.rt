@@ -3,6 +3,7 @@ use model::Kind;
 ghost use mathlib.Core.Path.{_≡_};
 ghost use Prim.Native.Nat.{ℕ, _+_, _*_, _<_, _≤_, min};
 ghost use mathlib.Core.List.{map};
+ghost use lib.ListN.{length};
 ghost use Rattle.model.specs.Count.{sum, product};
 ghost use Rattle.model.specs.Check.{countLimit};
 ghost use Rattle.rows.specs.Laid.{Laid};
@@ -81,24 +82,24 @@ pub fn sum_of(list: &[u16], values: &[u64; 256]) -> u64
 
 // How many entries the longest tree of a row with these arguments has, kept to one above the limit of lengths.
 fn row_length(args: &[u16], longest: &[u64; 256]) -> u64
-    requires { ⌜ Within 4096 (now longest) (now args) ⌝ }
+    requires { ⌜ (length (now args) ≤ 16) × Within 4096 (now longest) (now args) ⌝ }
     ensures { λ r. ⌜ r ≡ min (2 + sum (map (held (now (longest .entry))) (now (args .entry)))) lengthCeiling ⌝ }
 {
     let mut n: u64 = 2;
     let mut i: usize = 0;
     while i < args.len() {
         n += longest[chains::wide(args[i])];
-        if LENGTH_LIMIT < n {
-            return LENGTH_CEILING;
-        }
         i += 1;
+    }
+    if LENGTH_LIMIT < n {
+        return LENGTH_CEILING;
     }
     n
 }
 
 // The longer of what was found and the longest tree of a row that counts w, kept to one above the limit of lengths.
 fn longer_of(long: u64, w: u64, args: &[u16], longest: &[u64; 256]) -> u64
-    requires { ⌜ (long ≤ lengthCeiling) × Within 4096 (now longest) (now args) ⌝ }
+    requires { ⌜ (long ≤ lengthCeiling) × (length (now args) ≤ 16) × Within 4096 (now longest) (now args) ⌝ }
     ensures { λ r. ⌜ r ≡ min (longer long w (now (longest .entry)) (now (args .entry))) lengthCeiling ⌝ }
 {
     if w == 0 {

@@ -16,7 +16,7 @@ returns : tie.Need-returns
 returns c = simp (le-ltb 0 _ (let h : c .before .before .args .w ≤ 0 = omega arith in h), max-zero) (omega (arith, c .before .before .pre .0))
 
 row-length-requires : tie.Need-row-length-requires
-row-length-requires c κs = c .before .before .pre .1
+row-length-requires c κs = (c .before .before .pre .1, c .before .before .pre .2)
 
 returns-2 : tie.Need-returns-2
 returns-2 c = simp (lt-ltb 0 _ (pos (c .before .before))) (omega (arith, c .before .row-length .ensures, c .if2 .taken))
