@@ -13,8 +13,8 @@
  * Each function returns TREENUM_RESULT and puts its result in *value, or returns the number of a refusal and puts its
  * place there. On a refusal no list is written to.
  *
- * Each pointer is aligned, is valid for its length for as long as the call runs, and is not null, not even for
- * a length of 0. Lists that are const are only read. A list that is not const, and value, overlap nothing else.
+ * Each pointer is aligned and is valid for its length for as long as the call runs; that of a list with the length 0 may
+ * be null, value may not. Lists that are const are only read. A list that is not const, and value, overlap nothing else.
  *
  * No function keeps anything, takes memory or has to be called before another: each call checks all that it is
  * lent. Calls in several threads at once are safe.

@@ -1,12 +1,11 @@
 //! The five operations over include/treenum.h. All that is unsafe stands here.
 //!
-//! The header asks of a caller: "Each pointer is aligned, is valid for its length for as long as
-//! the call runs, and is not null, not even for a length of 0. [..] A list that is not const, and
-//! value, overlap nothing else." Each pointer below is that of a slice, with the slice's own
-//! length, or of a local `value`:
+//! The header asks of a caller: "Each pointer is aligned and is valid for its length for as long as
+//! the call runs; [..] A list that is not const, and value, overlap nothing else." Each pointer
+//! below is that of a slice, with the slice's own length, or of a local `value`:
 //!
-//! - the pointer of a slice is aligned and not null, of an empty one too, and it is valid for the
-//!   slice's length as long as the slice is borrowed, which is beyond the call;
+//! - the pointer of a slice is aligned, of an empty one too, and it is valid for the slice's length
+//!   as long as the slice is borrowed, which is beyond the call;
 //! - a list that is written to, and `value`, are borrowed by `&mut`, so nothing else is there;
 //! - a `const` list is only read, so a `&` suffices.
 //!

@@ -24,7 +24,8 @@ use Rattle.chains.specs.First.{FirstAt}
 use Rattle.counts.specs.declared.Counted.{Counted}
 use Rattle.counts.specs.declared.StateFault.the-variants.{At, Nothing}
 use Rattle.counts.specs.Chain.{target, InOrder}
-use Rattle.counts.specs.States.{ceiling, held, Summed, rowTable, Known, CountedStates, Given, Countable}
+use Rattle.counts.specs.States.{ceiling, lengthCeiling, held, Summed, rowTable, Known, CountedStates, Given, Countable}
+use Rattle.counts.proofs.Kept.{kept-above, kept-within}
 
 -- the rows of the table are in order
 rows-ordered : (states : ℕ) (rows : List ℕ) → InOrder states rows (howManyRows rows) → Ordered (rowsOf rows)
@@ -95,18 +96,18 @@ module _ {states : ℕ} {rows offsets first after cs ls sums : List ℕ} {q : �
   }
 
   module _ {sums′ : List ℕ} {s : Counted} (y : Summed rows cs ls q sums sums′ s) where
-    -- what was found for the state is what document 01 says, kept to the ceiling
+    -- what was found for the state is what document 01 says, each kept to its ceiling
     state-count : s .count ≡ min (count (rowTable states rows) q) ceiling
     state-count =
         y .count ∙ ap (λ (v : ℕ). min v ceiling)
         (stateCounts-local (rowsOf rows) (rows-ordered states rows (g .ordered)) (held cs) (count (rowTable states rows)) q (x .counts)
         ∙ sym (count-eqn (rowTable states rows) (rows-ordered states rows (g .ordered)) q lt))
 
-    state-longest : s .longest ≡ longest (rowTable states rows) q
+    state-longest : s .longest ≡ min (longest (rowTable states rows) q) lengthCeiling
     state-longest =
-        y .longest
-        ∙ stateLongest-local (rowsOf rows) (rows-ordered states rows (g .ordered)) (held cs) (count (rowTable states rows)) (held ls) (longest (rowTable states rows)) q (x .counts) (x .longests)
-        ∙ sym (longest-eqn (rowTable states rows) (rows-ordered states rows (g .ordered)) q lt)
+        y .longest ∙ ap (λ (v : ℕ). min v lengthCeiling)
+        (stateLongest-local (rowsOf rows) (rows-ordered states rows (g .ordered)) (held cs) (count (rowTable states rows)) (held ls) (longest (rowTable states rows)) q (x .counts) (x .longests)
+        ∙ sym (longest-eqn (rowTable states rows) (rows-ordered states rows (g .ordered)) q lt))
 
     pub count-fault : countLimit < s .count → stateGround countLimit (rowTable states rows) q ≡ 9
     unfolding stateGround
@@ -115,7 +116,7 @@ module _ {states : ℕ} {rows offsets first after cs ls sums : List ℕ} {q : �
     pub length-fault : s .count ≤ countLimit → 4096 < s .longest → stateGround countLimit (rowTable states rows) q ≡ 10
     unfolding stateGround
     length-fault h m =
-        rw (le-ltb countLimit (count (rowTable states rows) q) (omega (arith, state-count)), lt-ltb 4096 (longest (rowTable states rows) q) (omega (arith, state-longest)))
+        rw (le-ltb countLimit (count (rowTable states rows) q) (omega (arith, state-count)), sym (kept-above (longest (rowTable states rows) q)) ∙ lt-ltb 4096 (min (longest (rowTable states rows) q) lengthCeiling) (rw state-longest at m))
 
     pub fault-found : (k : Kind) → stateGround countLimit (rowTable states rows) q ≡ kindNumber k → CountedStates states rows cs ls sums′ (At q k)
     fault-found k e = record {
@@ -132,6 +133,9 @@ module _ {states : ℕ} {rows offsets first after cs ls sums : List ℕ} {q : �
     module _ (low : s .count ≤ countLimit) (short : s .longest ≤ 4096) where
       exact : s .count ≡ count (rowTable states rows) q
       exact = omega (arith, state-count)
+
+      exact-length : s .longest ≡ longest (rowTable states rows) q
+      exact-length = state-longest ∙ kept-within (longest (rowTable states rows) q) (rw state-longest at short)
 
       earlier-mine : (k : ℕ) → k < howManyRows rows → target rows k ≡ q → getD sums′ k 0 ≡ earlierRows (rowsOf rows) (count (rowTable states rows)) q k
       earlier-mine k l e =
@@ -159,8 +163,8 @@ module _ {states : ℕ} {rows offsets first after cs ls sums : List ℕ} {q : �
             (getD-set-same cs q (s .count) 0 (omega (arith, x .cs-long, g .ordered .few)) ∙ exact);
         longests = below-more _ q
             (λ a l. getD-set-other ls q a (s .longest) 0 (λ z. omega arith) ∙ x .longests a l)
-            (getD-set-same ls q (s .longest) 0 (omega (arith, x .ls-long, g .ordered .few)) ∙ state-longest);
-        fine = below-more _ q (x .fine) (state-ground countLimit (rowTable states rows) q (omega (arith, exact)) (omega (arith, state-longest)));
+            (getD-set-same ls q (s .longest) 0 (omega (arith, x .ls-long, g .ordered .few)) ∙ exact-length);
+        fine = below-more _ q (x .fine) (state-ground countLimit (rowTable states rows) q (omega (arith, exact)) (omega (arith, exact-length)));
         earlier = λ k l h. earlier-more k l h (ltb (target rows k) q) refl;
       }
 

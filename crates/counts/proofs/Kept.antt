@@ -3,15 +3,15 @@ use Prim.Native.Nat.{ℕ, zero, suc, _+_, _*_, _^_, _<_, _≤_, min}
 use mathlib.Core.Path.{_≡_, refl, sym, ap, _∙_}
 use mathlib.Core.Bool.{Bool, true, false}
 use mathlib.Core.List.{List, [], _∷_, map}
-use native.Mathlib.Nat.{mul-zero, mul-one, mul-assoc, mul-suc, one-mul, le-mul-of-pos-right, mul-le-mul, min-eq-left, min-eq-right, le-of-lt}
+use native.Mathlib.Nat.{mul-zero, mul-one, mul-assoc, one-mul, le-mul-of-pos-right, mul-le-mul, min-eq-left, min-eq-right, le-of-lt}
 use native.Mathlib.Omega.{arith}
 use lib.ListN.{length, getD, drop, drop-of-length-le}
-use lib.Dec.{leb}
-use borrow.Author.Tests.{leb-true, leb-false}
+use lib.Dec.{leb, ltb}
+use borrow.Author.Tests.{leb-true, leb-false, lt-ltb, le-ltb}
 use Rattle.model.specs.Count.{sum, product}
 use Rattle.model.specs.Check.{countLimit}
 use Rattle.model.proofs.Lists.{drop-next}
-use Rattle.counts.specs.States.{ceiling, held, Within}
+use Rattle.counts.specs.States.{ceiling, lengthCeiling}
 
 -- a product kept to a limit may be kept to it on the way: 0 stays 0, and what is above stays above
 pub kept-times : (l p c : ℕ) → min (min p l * c) l ≡ min (p * c) l
@@ -63,21 +63,25 @@ pub kept-ends : (f : ℕ → ℕ) (args : List ℕ) (i l t all : ℕ) → length
 unfolding sum
 kept-ends f args i l t all ge le h = omega (arith, rw (drop-of-length-le args {i = i} ge) at h)
 
--- a sum of small numbers is small
-sum-small : (f : ℕ → ℕ) (b : ℕ) (xs : List ℕ) → ((k : ℕ) → k < length xs → f (getD xs k 0) ≤ b) → sum (map f xs) ≤ b * length xs
+-- a length kept to its ceiling is above 4,096 just where the length is, and is the length itself where it is not
+pub kept-above : (n : ℕ) → ltb 4096 (min n lengthCeiling) ≡ ltb 4096 n
+kept-above n = go (leb n 4096) refl
+  where
+    go : (t : Bool) → leb n 4096 ≡ t → ltb 4096 (min n lengthCeiling) ≡ ltb 4096 n
+    go true e = let l = leb-true n 4096 e in le-ltb 4096 (min n lengthCeiling) (omega arith) ∙ sym (le-ltb 4096 n l)
+    go false e = let l = leb-false n 4096 e in lt-ltb 4096 (min n lengthCeiling) (omega arith) ∙ sym (lt-ltb 4096 n l)
+
+pub kept-within : (n : ℕ) → min n lengthCeiling ≤ 4096 → min n lengthCeiling ≡ n
+kept-within n l = omega arith
+
+-- the entries of the arguments passed, and those of the ones that are left, are together those of the row
+pub length-goes : (f : ℕ → ℕ) (args : List ℕ) (i : ℕ) → i < length args → (n x all : ℕ) → x ≡ f (getD args i 0) → n + sum (map f (drop i args)) ≡ all
+    → n + x + sum (map f (drop (i + 1) args)) ≡ all
+length-goes f args i lt n x all e h = omega (arith, sum-next f args i lt)
+
+pub length-ends : (f : ℕ → ℕ) (args : List ℕ) (i n all : ℕ) → length args ≤ i → n + sum (map f (drop i args)) ≡ all → n ≡ all
 unfolding sum
-sum-small f b [] h = omega arith
-sum-small f b (x ∷ xs) h =
-    let t : sum (map f xs) ≤ b * length xs = sum-small f b xs (λ k l. h (suc k) (omega arith)) in
-    let e : b * suc (length xs) ≡ b * length xs + b = mul-suc b (length xs) in
-    omega (arith, h 0 (omega arith))
-
--- sixteen longest trees within their limit are together below the ceiling
-pub short-sum : (ls args : List ℕ) → length args ≤ 16 → Within 4096 ls args → min (sum (map (held ls) args)) ceiling ≡ sum (map (held ls) args)
-short-sum ls args few w = min-eq-left (omega (arith, sum-small (held ls) 4096 args (w .small)))
-
-pub within-more : (ls args : List ℕ) → Within 4096 ls args → Within countLimit ls args
-within-more ls args w = record { placed = w .placed; small = λ k l. omega (arith, w .small k l) }
+length-ends f args i n all ge h = omega (arith, rw (drop-of-length-le args {i = i} ge) at h)
 
 pub product-begins : (p l : ℕ) → min (1 * p) l ≡ min p l
 product-begins p l = rw (one-mul p)

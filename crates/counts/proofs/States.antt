@@ -16,7 +16,7 @@ use Rattle.model.specs.Value.{earlierRows}
 use Rattle.model.proofs.Counting.{getD-map, sum-take-suc, largest-take-suc}
 use Rattle.model.proofs.Rows.{rowsOf-length, rowsOf-at}
 use Rattle.counts.specs.Chain.{target, leads, TargetLink}
-use Rattle.counts.specs.States.{ceiling, held, longer, Summed}
+use Rattle.counts.specs.States.{ceiling, lengthCeiling, held, longer, Summed}
 use Rattle.counts.proofs.Chain.{leads-row, leads-end}
 
 -- entries that add nothing may be passed over
@@ -30,6 +30,10 @@ skip F op more none xs i (suc j) le z = go (ltb j i) refl (skip F op more none x
     go false e ih =
         let ge : i ≤ j = ltb-false j i e in
         more xs j ∙ ap (λ (v : ℕ). op (F (take j xs)) v) (z j ge (omega arith)) ∙ none (F (take j xs)) ∙ ih ge (λ k a b. z k a (omega arith))
+
+-- a largest number kept to a limit may be kept to it on the way
+kept-larger : (l m n : ℕ) → min (max (min m l) n) l ≡ min (max m n) l
+kept-larger l m n = omega arith
 
 kept-positive : (p c : ℕ) → 0 < c → ltb 0 (min p c) ≡ ltb 0 p
 kept-positive zero c h = le-ltb 0 (min 0 c) (omega arith) ∙ sym (le-ltb 0 0 (omega arith))
@@ -91,7 +95,7 @@ module _ (rows cs ls : List ℕ) (q : ℕ) where
     pub inside : 0 < p → p - 1 < howManyRows rows
     pub mine : 0 < p → target rows (p - 1) ≡ q
     pub counted : count ≡ min (earlierRows (rowsOf rows) (held cs) q (leads p (howManyRows rows))) ceiling
-    pub measured : long ≡ largest (take (leads p (howManyRows rows)) lengths)
+    pub measured : long ≡ min (largest (take (leads p (howManyRows rows)) lengths)) lengthCeiling
     pub sums-long : length sums ≡ 1024
     pub own : (k : ℕ) → k < leads p (howManyRows rows) → target rows k ≡ q → getD sums k 0 ≡ min (earlierRows (rowsOf rows) (held cs) q k) ceiling
     pub others : (k : ℕ) → (target rows k ≡ q → ⊥) → getD sums k 0 ≡ getD sums₀ k 0
@@ -108,7 +112,7 @@ module _ (rows cs ls : List ℕ) (q : ℕ) where
     inside = inside-of 0 p l;
     mine = mine-of 0 p l;
     counted = sym (ap (λ (v : ℕ). min v ceiling) (earlier-skip 0 (leads p (howManyRows rows)) (omega arith) (l .within) (l .gap)));
-    measured = sym (largest-skip 0 (leads p (howManyRows rows)) (omega arith) (l .within) (l .gap));
+    measured = sym (ap (λ (v : ℕ). min v lengthCeiling) (largest-skip 0 (leads p (howManyRows rows)) (omega arith) (l .within) (l .gap)));
     sums-long = e;
     own = λ k lt h. absurd (l .gap k (omega arith) lt h);
     others = λ k ne. refl;
@@ -116,7 +120,7 @@ module _ (rows cs ls : List ℕ) (q : ℕ) where
 
   module _ {sums₀ sums : List ℕ} {count long p : ℕ} (s : Summing sums₀ sums count long p) (pos : 0 < p) (w count′ long′ p′ : ℕ)
       (row : w ≡ min (product (map (held cs) (rowNumbered rows (p - 1) .args))) ceiling) (more : count′ ≡ min (count + w) ceiling)
-      (longest : long′ ≡ longer long w ls (rowNumbered rows (p - 1) .args)) (l : TargetLink rows q (suc (p - 1)) (howManyRows rows) p′) (many : howManyRows rows ≤ 1024) where
+      (longest : long′ ≡ min (longer long w ls (rowNumbered rows (p - 1) .args)) lengthCeiling) (l : TargetLink rows q (suc (p - 1)) (howManyRows rows) p′) (many : howManyRows rows ≤ 1024) where
     here : leads p (howManyRows rows) ≡ p - 1
     here = leads-row p (howManyRows rows) pos
 
@@ -127,18 +131,18 @@ module _ (rows cs ls : List ℕ) (q : ℕ) where
         let d : count ≡ min (earlierRows (rowsOf rows) (held cs) q (p - 1)) ceiling = rw here at (s .counted) in
         omega (arith, a, b, d, row, more)
 
-    measured-more : long′ ≡ largest (take (leads p′ (howManyRows rows)) lengths)
+    measured-more : long′ ≡ min (largest (take (leads p′ (howManyRows rows)) lengths)) lengthCeiling
     measured-more =
         let a = largest-skip (suc (p - 1)) (leads p′ (howManyRows rows)) (l .from) (l .within) (l .gap) in
         let b = length-mine (p - 1) (s .inside pos) (s .mine pos) in
-        let d : long ≡ largest (take (p - 1) lengths) = rw here at (s .measured) in
+        let d : long ≡ min (largest (take (p - 1) lengths)) lengthCeiling = rw here at (s .measured) in
         let z : ltb 0 w ≡ ltb 0 (product (map (held cs) (rowNumbered rows (p - 1) .args))) = ap (λ (v : ℕ). ltb 0 v) row ∙ kept-positive (product (map (held cs) (rowNumbered rows (p - 1) .args))) ceiling (omega arith) in
         longest
-        ∙ ap (λ (t : Bool). max long (if t then 2 + sum (map (held ls) (rowNumbered rows (p - 1) .args)) else 0)) z
-        ∙ ap (λ (v : ℕ). max long v) (sym b)
-        ∙ ap (λ (v : ℕ). max v (getD lengths (p - 1) 0)) d
-        ∙ sym (largest-take-suc lengths (p - 1))
-        ∙ sym a
+        ∙ ap (λ (t : Bool). min (max long (if t then 2 + sum (map (held ls) (rowNumbered rows (p - 1) .args)) else 0)) lengthCeiling) z
+        ∙ ap (λ (v : ℕ). min (max long v) lengthCeiling) (sym b)
+        ∙ ap (λ (v : ℕ). min (max v (getD lengths (p - 1) 0)) lengthCeiling) d
+        ∙ kept-larger lengthCeiling (largest (take (p - 1) lengths)) (getD lengths (p - 1) 0)
+        ∙ ap (λ (v : ℕ). min v lengthCeiling) (sym (largest-take-suc lengths (p - 1)) ∙ sym a)
 
     own-more : (k : ℕ) → k < leads p′ (howManyRows rows) → target rows k ≡ q → (b : Bool) → ltb k (p - 1) ≡ b → (e : Bool) → eqb k (p - 1) ≡ e
         → getD (set sums (p - 1) count) k 0 ≡ min (earlierRows (rowsOf rows) (held cs) q k) ceiling
@@ -170,7 +174,7 @@ module _ (rows cs ls : List ℕ) (q : ℕ) where
       let e : leads p (howManyRows rows) ≡ howManyRows rows = ap (λ (v : ℕ). leads v (howManyRows rows)) z ∙ leads-end (howManyRows rows) in
       record {
         count = s .counted ∙ ap (λ (v : ℕ). min (earlierRows (rowsOf rows) (held cs) q v) ceiling) e ∙ ap (λ (v : ℕ). min v ceiling) all-earlier;
-        longest = s .measured ∙ ap (λ (v : ℕ). largest (take v lengths)) e ∙ all-lengths;
+        longest = s .measured ∙ ap (λ (v : ℕ). min (largest (take v lengths)) lengthCeiling) e ∙ ap (λ (v : ℕ). min v lengthCeiling) all-lengths;
         long = s .sums-long;
         mine = λ k lt h. s .own k (rw e lt) h;
         others = s .others;

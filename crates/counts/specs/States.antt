@@ -22,6 +22,10 @@ use Rattle.counts.specs.Chain.{target, InOrder, Chained}
 abbrev pub ceiling : ℕ
 ceiling = countLimit + 1
 
+-- lengths have a ceiling of their own: the first number above the 4,096 entries that a longest tree may have
+abbrev pub lengthCeiling : ℕ
+lengthCeiling = 4096 + 1
+
 -- what a list holds for each state
 abbrev pub held : List ℕ → ℕ → ℕ
 held xs q = getD xs q 0
@@ -38,7 +42,7 @@ longer long w ls args = max long (if ltb 0 w then 2 + sum (map (held ls) args) e
 -- one state: its count and its longest tree, from what is held for the states below it, and for each of its rows the sum of those before it
 pub record Summed (rows cs ls : List ℕ) (q : ℕ) (sums₀ sums : List ℕ) (r : Counted) : Type 0 where
   pub count : r .count ≡ min (stateCounts (rowsOf rows) (held cs) q) ceiling
-  pub longest : r .longest ≡ stateLongest (rowsOf rows) (held cs) (held ls) q
+  pub longest : r .longest ≡ min (stateLongest (rowsOf rows) (held cs) (held ls) q) lengthCeiling
   pub long : length sums ≡ 1024
   pub mine : (k : ℕ) → k < howManyRows rows → target rows k ≡ q → getD sums k 0 ≡ min (earlierRows (rowsOf rows) (held cs) q k) ceiling
   pub others : (k : ℕ) → (target rows k ≡ q → ⊥) → getD sums k 0 ≡ getD sums₀ k 0

@@ -8,7 +8,7 @@ ghost use Rattle.model.specs.Count.{sum, product};
 ghost use Rattle.model.specs.Check.{countLimit};
 ghost use Rattle.rows.specs.Laid.{Laid};
 ghost use Rattle.counts.specs.Chain.{target, Chained, Unchained};
-ghost use Rattle.counts.specs.States.{ceiling, held, Within, longer, Summed, Countable, Ready, CountedStates};
+ghost use Rattle.counts.specs.States.{ceiling, lengthCeiling, held, Within, longer, Summed, Countable, Ready, CountedStates};
 
 // The largest count and the largest total that pass.
 pub const LIMIT: u64 = 4294967295;
@@ -16,7 +16,13 @@ pub const LIMIT: u64 = 4294967295;
 // What is kept to this is right up to the limit, and above it where it should be.
 const CEILING: u64 = LIMIT + 1;
 
-// What a state counts, kept to one above the limit, and how many entries its longest tree has.
+// The most entries that a state's longest tree may have.
+const LENGTH_LIMIT: u64 = 4096;
+
+// A length kept to this is right up to its limit, and above it where it should be, whatever the limit of counts is.
+const LENGTH_CEILING: u64 = LENGTH_LIMIT + 1;
+
+// What a state counts, and how many entries its longest tree has, each kept to one above its limit.
 pub struct Counted {
     pub count: u64,
     pub longest: u64,
@@ -74,15 +80,32 @@ pub fn sum_of(list: &[u16], values: &[u64; 256]) -> u64
     total
 }
 
-// The longer of what was found and the longest tree of a row that counts w.
-fn longer_of(long: u64, w: u64, args: &[u16], longest: &[u64; 256]) -> u64
+// How many entries the longest tree of a row with these arguments has, kept to one above the limit of lengths.
+fn row_length(args: &[u16], longest: &[u64; 256]) -> u64
     requires { ⌜ (length (now args) ≤ 16) × Within 4096 (now longest) (now args) ⌝ }
-    ensures { λ r. ⌜ r ≡ longer long w (now (longest .entry)) (now (args .entry)) ⌝ }
+    ensures { λ r. ⌜ r ≡ min (2 + sum (map (held (now (longest .entry))) (now (args .entry)))) lengthCeiling ⌝ }
+{
+    let mut n: u64 = 2;
+    let mut i: usize = 0;
+    while i < args.len() {
+        n += longest[chains::wide(args[i])];
+        i += 1;
+    }
+    if LENGTH_LIMIT < n {
+        return LENGTH_CEILING;
+    }
+    n
+}
+
+// The longer of what was found and the longest tree of a row that counts w, kept to one above the limit of lengths.
+fn longer_of(long: u64, w: u64, args: &[u16], longest: &[u64; 256]) -> u64
+    requires { ⌜ (long ≤ lengthCeiling) × (length (now args) ≤ 16) × Within 4096 (now longest) (now args) ⌝ }
+    ensures { λ r. ⌜ r ≡ min (longer long w (now (longest .entry)) (now (args .entry))) lengthCeiling ⌝ }
 {
     if w == 0 {
         return long;
     }
-    let n = 2 + sum_of(args, longest);
+    let n = row_length(args, longest);
     if long < n {
         return n;
     }
@@ -165,7 +188,7 @@ pub fn count_states(
         if LIMIT < count {
             return StateFault::At(q, Kind::CountAboveLimit);
         }
-        if 4096 < long {
+        if LENGTH_LIMIT < long {
             return StateFault::At(q, Kind::LongestTreeAboveLimit);
         }
         counts[q] = count;

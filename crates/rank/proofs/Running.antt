@@ -16,7 +16,6 @@ use Rattle.model.specs.Table.{rowNumbered, rowIs}
 use Rattle.model.specs.Tree.{WellFormed}
 use Rattle.model.specs.Count.{product}
 use Rattle.model.specs.Value.{horner}
-use Rattle.model.specs.Check.{countLimit}
 use Rattle.model.specs.Entries.{openAfter, endsTooSoon}
 use Rattle.model.proofs.Choice.{or-false}
 use Rattle.model.proofs.Lists.{drop-next}
@@ -129,7 +128,7 @@ module _ {rows accepting offsets heads next cs sums : List ℕ} {n : ℕ} (ready
   closes-within vs v = record { valued = v; small = λ k e. let f = found-fits k e in omega (arith, f .1, ready .small k (f .0)) }
 
   -- the state has a place, and the value is below its count
-  node-below : (vs : List ℕ) → Valued cs xs vs → (q v : ℕ) → nodeOf rows n cs sums s xs vs ≡ Reaches q v → (q < 256) × (v < held cs q) × (v ≤ countLimit)
+  node-below : (vs : List ℕ) → Valued cs xs vs → (q v : ℕ) → nodeOf rows n cs sums s xs vs ≡ Reaches q v → (q < 256) × (v < held cs q)
   unfolding nodeOf
   node-below vs b q v e =
       let r = by-row (rowFound rows n s xs) rows cs sums xs vs q v e in
@@ -139,7 +138,7 @@ module _ {rows accepting offsets heads next cs sums : List ℕ} {n : ℕ} (ready
       let q-is : q ≡ target rows k = r .2 in
       let v-is : v ≡ horner (held cs) 0 xs vs + getD sums k 0 = r .3 in
       let small : v < held cs (target rows k) = omega (arith, f .1) in
-      (rw q-is (ready .targets k (f .0)), rw q-is small, omega (arith, ready .small k (f .0)))
+      (rw q-is (ready .targets k (f .0)), rw q-is small)
 
 -- ---- the entries in turn
 
@@ -158,7 +157,6 @@ pub record Running (rows accepting cs sums tree : List ℕ) (n : ℕ) (opens beg
   pub sorted : (j k : ℕ) → j ≤ k → k < s .depth → getD begins j 0 ≤ getD begins k 0
   pub placed : (j : ℕ) → j < w → getD waiting j 0 < 256
   pub below : (j : ℕ) → j < w → getD values j 0 < held cs (getD waiting j 0)
-  pub small : (j : ℕ) → j < w → getD values j 0 ≤ countLimit
   pub same : run (nodeOf rows n cs sums) (numbered accepting cs) (stackOf (s .depth) opens) (stackOf (s .depth) begins) (take w waiting) (take w values) i (drop i tree)
       ≡ machine rows n accepting cs sums tree
 
@@ -180,7 +178,6 @@ running-begins rows accepting cs sums tree n opens begins waiting values s few e
       sorted = λ j k le l. absurd (omega arith);
       placed = λ j l. absurd (omega arith);
       below = λ j l. absurd (omega arith);
-      small = λ j l. absurd (omega arith);
       same = rw (d, no-stack opens, no-stack begins);
     }
 
@@ -238,7 +235,6 @@ module _ {rows accepting cs sums tree : List ℕ} {n : ℕ} {opens begins waitin
                 (λ le2. rw there (under′ j (omega arith))) k (omega arith) le;
             placed = r .placed;
             below = r .below;
-            small = r .small;
             same =
                 ap (λ (k : ℕ). run (nodeOf rows n cs sums) (numbered accepting cs) (stackOf k (set opens (t .depth - 1) (getD tree i 0))) (stackOf k (set begins (t .depth - 1) w)) (take w waiting) (take w values) (i + 1) (drop (i + 1) tree))
                 (top ∙ add-one (t .depth - 1))
@@ -319,7 +315,6 @@ module _ {rows accepting cs sums tree : List ℕ} {n : ℕ} {opens begins waitin
             placed = below-more (λ (j : ℕ). getD (set waiting b q) j 0 < 256) b (λ j lt. rw (other-w j lt) (r .placed j (omega (arith, close-under)))) (rw here-w (x .0));
             below = below-more (λ (j : ℕ). getD (set values b v) j 0 < held cs (getD (set waiting b q) j 0)) b
                 (λ j lt. rw (other-w j lt, other-v j lt) (r .below j (omega (arith, close-under)))) (rw (here-w, here-v) (x .1));
-            small = below-more (λ (j : ℕ). getD (set values b v) j 0 ≤ countLimit) b (λ j lt. rw (other-v j lt) (r .small j (omega (arith, close-under)))) (rw here-v (x .2));
             same =
                 rw (front waiting q (r .waiting-long), front values v (r .values-long))
                 (sym (run-close (nodeOf rows n cs sums) (numbered accepting cs) (stackOf (t .depth) opens) (stackOf (t .depth) begins) (take w waiting) (take w values) i
@@ -348,8 +343,8 @@ module _ {rows accepting cs sums tree : List ℕ} {n : ℕ} {opens begins waitin
         let d : s .depth ≡ openAfter 0 tree = r .reads .depth-is ∙ ap (openAfter 0) (take-all i tree g) in
         omega (arith, r .some some-read, ltb-false 0 (openAfter 0 tree) (ends .1))
 
-    pub end-sums : {offsets heads next : List ℕ} → Ready rows accepting offsets heads next cs sums n → Summable accepting cs (getD values 0 0)
-    end-sums ready = record { value = r .small 0 one-waits; placed = ready .placed; small = ready .total }
+    pub end-sums : {offsets heads next : List ℕ} → Ready rows accepting offsets heads next cs sums n → Summable accepting cs (getD waiting 0 0) (getD values 0 0)
+    end-sums ready = record { below = r .below 0 one-waits; placed = ready .placed; small = ready .total }
 
     pub tree-ends : numbered accepting cs (getD waiting 0 0) (getD values 0 0) (i - 1) ≡ machine rows n accepting cs sums tree
     tree-ends =

@@ -1,6 +1,6 @@
 -- The state looked for in the accepting list. Assumes nothing.
 use Prim.Native.Nat.{ℕ, _+_, _<_, _≤_}
-use mathlib.Core.Path.{_≡_}
+use mathlib.Core.Path.{_≡_, refl, sym}
 use mathlib.Core.List.{List, map}
 use native.Mathlib.Omega.{arith}
 use native.Mathlib.Decide.{decLe}
@@ -21,35 +21,38 @@ use Rattle.counts.specs.States.{held}
 use Rattle.rank.specs.Machine.{numbered}
 use Rattle.rank.specs.Ready.{Summable}
 
--- the first i entries are not the state q, and their counts are added to the value v
-pub record Summing (accepting cs : List ℕ) (q v number i : ℕ) : Type 0 where
+-- the first i entries are not the state q, and their counts are added up
+pub record Summing (accepting cs : List ℕ) (q earlier i : ℕ) : Type 0 where
   pub within : i ≤ length accepting
   pub others : (j : ℕ) → j < i → getD accepting j 0 ≡ q → ⊥
-  pub is : number ≡ v + sum (take i (map (held cs) accepting))
+  pub is : earlier ≡ sum (take i (map (held cs) accepting))
 
-pub sum-begins : (accepting cs : List ℕ) (q v : ℕ) → Summing accepting cs q v v 0
+pub sum-begins : (accepting cs : List ℕ) (q : ℕ) → Summing accepting cs q 0 0
 unfolding sum
-sum-begins accepting cs q v = record { within = omega arith; others = λ j l. absurd (omega arith); is = omega arith }
+sum-begins accepting cs q = record { within = omega arith; others = λ j l. absurd (omega arith); is = refl }
 
-module _ {accepting cs : List ℕ} {q v number i : ℕ} (s : Summing accepting cs q v number i) where
+module _ {accepting cs : List ℕ} {q earlier i : ℕ} (s : Summing accepting cs q earlier i) where
   module _ (l : i < length accepting) where
-    more-is : (x : ℕ) → x ≡ getD accepting i 0 → number + held cs x ≡ v + sum (take (i + 1) (map (held cs) accepting))
+    more-is : (x : ℕ) → x ≡ getD accepting i 0 → earlier + held cs x ≡ sum (take (i + 1) (map (held cs) accepting))
     more-is x e = rw (add-one i, e) (omega (arith, s .is, sum-take-suc (map (held cs) accepting) i, getD-map (held cs) accepting i 0 0 l))
 
-    pub sum-goes : (x : ℕ) → x ≡ getD accepting i 0 → (getD accepting i 0 ≡ q → ⊥) → Summing accepting cs q v (number + held cs x) (i + 1)
+    pub sum-goes : (x : ℕ) → x ≡ getD accepting i 0 → (getD accepting i 0 ≡ q → ⊥) → Summing accepting cs q (earlier + held cs x) (i + 1)
     sum-goes x e ne = record {
       within = omega arith;
       others = below-more (λ (j : ℕ). getD accepting j 0 ≡ q → ⊥) i (s .others) ne;
       is = more-is x e;
     }
 
-    pub sum-fits : (x : ℕ) → x ≡ getD accepting i 0 → Summable accepting cs v → number + held cs x ≤ countLimit + countLimit
-    sum-fits x e b = omega (arith, more-is x e, sum-take-le (map (held cs) accepting) (i + 1), b .value, b .small)
+    pub sum-fits : {v : ℕ} → Summable accepting cs q v → (x : ℕ) → x ≡ getD accepting i 0 → earlier + held cs x ≤ countLimit
+    sum-fits b x e = omega (arith, more-is x e, sum-take-le (map (held cs) accepting) (i + 1), b .small)
 
-    -- the state is listed here
-    pub listed-here : getD accepting i 0 ≡ q → (place : ℕ) → result number ≡ numbered accepting cs q v place
+    -- the state is listed here: the value is below its count, so the number is below the total
+    pub number-fits : {v : ℕ} → Summable accepting cs q v → getD accepting i 0 ≡ q → v + earlier < countLimit
+    number-fits b e = omega (arith, b .below, sum-fits b q (sym e))
+
+    pub listed-here : getD accepting i 0 ≡ q → (v place : ℕ) → result (v + earlier) ≡ numbered accepting cs q v place
     unfolding numbered
-    listed-here e place =
+    listed-here e v place =
         let first = entryOf-first accepting q i e in
         let here : entryOf accepting q ≡ i = go first (decLe i (entryOf accepting q)) in
         rw (here, lt-ltb i (length accepting) l, s .is)
@@ -59,9 +62,9 @@ module _ {accepting cs : List ℕ} {q v number i : ℕ} (s : Summing accepting c
         go f (no m) = absurd (s .others (entryOf accepting q) (lt-of-not-le m) (entryOf-is accepting q (omega (arith, lt-of-not-le m))))
 
   -- it is nowhere
-  pub not-listed : length accepting ≤ i → (place : ℕ) → refused 14 place ≡ numbered accepting cs q v place
+  pub not-listed : length accepting ≤ i → (v place : ℕ) → refused 14 place ≡ numbered accepting cs q v place
   unfolding numbered
-  not-listed g place = go (decLe (length accepting) (entryOf accepting q))
+  not-listed g v place = go (decLe (length accepting) (entryOf accepting q))
     where
       go : Dec (length accepting ≤ entryOf accepting q)
           → refused 14 place ≡ (if ltb (entryOf accepting q) (length accepting) then result (v + sum (take (entryOf accepting q) (map (held cs) accepting))) else refused 14 place)

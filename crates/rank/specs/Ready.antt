@@ -28,9 +28,9 @@ pub record Closable (rows : List ℕ) (n : ℕ) (cs sums : List ℕ) (s : ℕ) (
   pub valued : Valued cs xs vs
   pub small : (k : ℕ) → rowFound rows n s xs ≡ At k → product (map (held cs) xs) + getD sums k 0 ≤ countLimit
 
--- a value, and all counts of the accepting list together, within the limit
-pub record Summable (accepting cs : List ℕ) (v : ℕ) : Type 0 where
-  pub value : v ≤ countLimit
+-- a value below the count of its state, and all counts of the accepting list together within the limit
+pub record Summable (accepting cs : List ℕ) (q v : ℕ) : Type 0 where
+  pub below : v < held cs q
   pub placed : (k : ℕ) → k < length accepting → getD accepting k 0 < 256
   pub small : sum (map (held cs) accepting) ≤ countLimit
 

@@ -67,18 +67,20 @@ fn close(
     }
 }
 
-// The number of a tree with this state and value, where the state is listed: 14 at the place where it is not.
+// The number of a tree with this state and value, where the state is listed: 14 at the place where it is not. The value is added last, so
+// that no sum goes beyond the total.
 fn number_in(accepting: &[u16], counts: &[u64; 256], q: u16, value: u64, place: usize) -> Answer
-    requires { ⌜ Summable (now accepting) (now counts) value ⌝ }
+    requires { ⌜ Summable (now accepting) (now counts) q value ⌝ }
     ensures { λ r. ⌜ outcome r ≡ numbered (now (accepting .entry)) (now (counts .entry)) q value place ⌝ }
 {
-    let mut number = value;
+    let mut earlier: u64 = 0;
     let mut i: usize = 0;
     while i < accepting.len() {
         if accepting[i] == q {
+            let number = value + earlier;
             return Answer::Result(number);
         }
-        number += counts[chains::wide(accepting[i])];
+        earlier += counts[chains::wide(accepting[i])];
         i += 1;
     }
     Answer::Refused(refuse(Kind::NotAccepted, place as u64))

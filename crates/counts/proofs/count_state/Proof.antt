@@ -62,7 +62,7 @@ plus-requires : tie.Need-plus-requires Inv-loop μ-loop
 plus-requires c κs = (rw (c .before .before .before .before .before .loop .inv .counted) (min-le-right _ _), rw (c .row-count .ensures) (min-le-right _ _))
 
 longer-of-requires : tie.Need-longer-of-requires Inv-loop μ-loop
-longer-of-requires c κs = rw (args (c .before .before)) (c .before .before .before .before .before .before .before .before .before .before .pre .short _ (row (c .before .before .before .before .before)) (mine (c .before .before .before .before .before)), c .before .before .before .before .before .before .before .before .before .before .pre .measured _ (row (c .before .before .before .before .before)) (mine (c .before .before .before .before .before)))
+longer-of-requires c κs = (rw (c .before .before .before .before .before .before .loop .inv .measured) (min-le-right _ _), rw (args (c .before .before)) (c .before .before .before .before .before .before .before .before .before .before .pre .short _ (row (c .before .before .before .before .before)) (mine (c .before .before .before .before .before))), rw (args (c .before .before)) (c .before .before .before .before .before .before .before .before .before .before .pre .measured _ (row (c .before .before .before .before .before)) (mine (c .before .before .before .before .before))))
 
 mul-wide-3 : tie.Need-mul-wide-3 Inv-loop μ-loop
 mul-wide-3 c = omega (arith, row (c .before .before .before .before .before .before), c .before .before .before .before .before .before .before .before .before .before .before .pre .laid .many)
