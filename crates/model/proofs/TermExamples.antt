@@ -1,14 +1,13 @@
 -- Terms read and written, checked by computation against "The operations and what they turn away": answers, lists, the order of the
 -- refusals, and limits from both sides. Texts stand as texts, so that no byte's number is taken on trust.
 use Prim.Native.Nat.{ℕ, zero, suc, _+_, _/_, _%_}
-use Prim.Native.Char.{code}
-use Prim.Native.String.{String, [] as no-text, _∷_ as and-text}
 use mathlib.Core.Path.{_≡_, refl}
 use mathlib.Core.Bool.{Bool}
 use mathlib.Core.List.{List, [], _∷_, _++_, map}
 use lib.ListN.{length, replicate}
 use Rattle.model.specs.Answers.{Outcome, result, refused}
 use Rattle.model.specs.Choice.{if_then_else_, refuseOn, firstFaulty, anyBelow}
+use Rattle.model.specs.Text.{ascii}
 use Rattle.model.specs.Table.{sameList}
 use Rattle.model.specs.Tree.{serialForest, serial}
 use Rattle.model.specs.Names.{isLetter, isNameByte, allNameBytes, isName, sameName, linesOf, nameOf, lineWith, symbolOf, isListed, lineGround, namesOr}
@@ -16,15 +15,10 @@ use Rattle.model.specs.Entries.{openAfter, entryGround, endsTooSoon, for
 use Rattle.model.specs.Term.{textOfTerms, textOf, step, scan, termOr, run, nameBegins, before, seenFrom, termFrom}
 use Rattle.model.specs.TermOperations.{symbolsOf, namesOf, entriesOf, bytesOf, nameGround, readTermOutcome, symbolGround, writeTermOutcome, readTermList, writeTermList}
 
--- the bytes of an ASCII text
-unfoldable ascii : String → List ℕ
-ascii no-text = []
-ascii (and-text c cs) = code c ∷ ascii cs
-
 -- ---- the bytes of names
 
 -- of the bytes below n, in order, those with the property
-unfoldable bytesWith : (ℕ → Bool) → ℕ → List ℕ
+unfoldable pub bytesWith : (ℕ → Bool) → ℕ → List ℕ
 bytesWith p zero = []
 bytesWith p (suc n) = bytesWith p n ++ (if p n then n ∷ [] else [])
 

@@ -19,4 +19,5 @@ pub mod TermRefusals
 pub mod Number
 pub mod Write
 pub mod Demand3
+pub mod Text
 pub mod Paper
