@@ -1,5 +1,6 @@
 -- The laws of printed lines.
 pub mod Decimal
+pub mod Digits
 pub mod Feeding
 pub mod Output
 pub mod Outcomes
