@@ -38,5 +38,5 @@ module _ {bytes text₀ : List ℕ} {line₀ : Line} {text : List ℕ} {line : L
   feeds-last ge held x = rw (take-all i bytes ge) at (f .holds held x)
 
 -- bytes are held after a read too
-pub held-on : {line l : Line} {bytes text text′ : List ℕ} → ((held : List ℕ) → Holds held line text → Holds (heldAfter held bytes) l text′) → Holding line text → Holding l text′
-held-on {line} {l} {bytes} f h = record { bytes = heldAfter (h .bytes) bytes; holds = f (h .bytes) (h .holds) }
+pub held-on : {line l : Line} {text text′ : List ℕ} (bytes : List ℕ) → ((held : List ℕ) → Holds held line text → Holds (heldAfter held bytes) l text′) → Holding line text → Holding l text′
+held-on bytes f h = record { bytes = heldAfter (h .bytes) bytes; holds = f (h .bytes) (h .holds) }
