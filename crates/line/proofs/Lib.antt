@@ -8,3 +8,4 @@ pub mod Putting
 pub mod Answering
 pub mod Walking
 pub mod Run
+pub mod Samples
