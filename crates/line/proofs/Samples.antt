@@ -77,6 +77,6 @@ edges =
     ∷ whole (many 4097 "0") (ascii "a(a,a)\n")
     ∷ []
 
-pub edge-samples : map given edges ≡ map due edges
+edge-samples : map given edges ≡ map due edges
 unfolding refuseOn firstFaulty anyBelow rowStart howMany howManyRows firstRows rowsOf sameList rowIs serialForest serial rowWith statesOf entryOf sum product weight stateCounts grow count total largest rowLongest stateLongest longest horner earlierRows rowValue valuesOf numberOf findBy childrenFrom treeIn treeOf allBelow cut tooMany outOfRange notBelow repeated rowGround acceptingGround stateGround checkWithin checkOutcome isLetter isNameByte allNameBytes isName sameName linesOf nameOf lineWith symbolOf isListed lineGround namesOr openAfter entryGround endsTooSoon formOr treeOr levelsOf treeFrom textOfTerms textOf step scan termOr run nameBegins before seenFrom termFrom symbolsOf namesOf entriesOf bytesOf nameGround readTermOutcome symbolGround writeTermOutcome reachesNone stuckOr acceptedOr numberOutcome entriesFor writeOutcome ascii paperRowList oneList paperRows paperNames allDigits isNumber numberAfter numberIn decimalBy decimal answerNumber answerTerm answerTo answersTo outputFor many
 edge-samples = refl
