@@ -1,11 +1,10 @@
 """Writes lines for the program treenum.
 
-    make_lines.py SEED COUNT              the edges, which are always the same; COUNT drawn lines; a last line without byte 10
-    make_lines.py SEED COUNT --expected   what the reference prints for them
-    make_lines.py SEED COUNT --tally      how many lines have each answer
+    make_lines.py SEED COUNT [MODE]           the edges, which are always the same; COUNT drawn lines; a last line without byte 10
+    make_lines.py SEED COUNT --short [MODE]   of these, the lines of at most 60 printable bytes: crates/treenum/stdin
 
-An edge comes with its answer, written down by hand; the program stops if the reference gives another. COUNT 0 gives the
-edges alone.
+MODE is --expected for what the reference prints for them, --tally for how many lines have each answer. An edge comes with
+its answer, written down by hand; the program stops if the reference gives another. COUNT 0 gives the edges alone.
 """
 
 import sys
@@ -97,20 +96,33 @@ def drawn(draw, count):
 
 
 LAST = b'b(a,b)'
+READ = 4096
 
 
-def main(arguments):
-    mode = arguments.pop() if arguments and arguments[-1] in ('--expected', '--tally') else '--lines'
-    if len(arguments) != 2:
-        sys.exit('usage: make_lines.py SEED COUNT [--expected | --tally]')
-    seed, count = map(int, arguments)
-    lines = []
+def some_lines(seed, count):
     for line, by_hand in edges():
         answer = treenum_line(line)
         if answer != by_hand:
             sys.exit(f'the reference answers {answer} to an edge, not {by_hand}: {line[:400]}')
-        lines.append(line)
-    lines += drawn(Draw(seed), count)
+        yield line
+    yield from drawn(Draw(seed), count)
+
+
+def short_lines(seed, count):
+    """Lines that are easy to read; some of them begin in one read of the input and end in a later one."""
+    lines = [line for line in some_lines(seed, count) if len(line) <= 60 and all(32 <= b < 127 for b in line)]
+    text = b'\n'.join(lines)
+    if not any(text[at - 1] != 10 and text[at] != 10 for at in range(READ, len(text), READ)):
+        sys.exit('no line begins in one read and ends in a later one')
+    return lines
+
+
+def main(arguments):
+    mode = arguments.pop() if arguments and arguments[-1] in ('--expected', '--tally') else '--lines'
+    short = arguments[-1:] == ['--short'] and arguments.pop()
+    if len(arguments) != 2:
+        sys.exit('usage: make_lines.py SEED COUNT [--short] [--expected | --tally]')
+    lines = (short_lines if short else some_lines)(*map(int, arguments))
     text = b'\n'.join([*lines, LAST])
     if mode == '--lines':
         sys.stdout.buffer.write(text)

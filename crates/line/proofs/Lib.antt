@@ -1,5 +1,6 @@
 -- The laws of printed lines.
 pub mod Decimal
+pub mod Digits
 pub mod Feeding
 pub mod Output
 pub mod Outcomes
@@ -7,3 +8,4 @@ pub mod Putting
 pub mod Answering
 pub mod Walking
 pub mod Run
+pub mod Samples

@@ -1,8 +1,6 @@
 -- Terms read and written, checked by computation against "The operations and what they turn away": answers, lists, the order of the
 -- refusals, and limits from both sides; 21 at its real size by the laws. Texts stand as texts, so that no byte's number is taken on trust.
 use Prim.Native.Nat.{ℕ, zero, suc, _+_, _*_, _/_, _%_}
-use Prim.Native.Char.{code}
-use Prim.Native.String.{String, [] as no-text, _∷_ as and-text}
 use mathlib.Core.Path.{_≡_, refl, ap, sym, _∙_}
 use mathlib.Core.Bool.{Bool, false, not}
 use mathlib.Core.List.{List, [], _∷_, _++_, append-nil, map}
@@ -11,6 +9,7 @@ use lib.ListN.{length, getD, replicate, length-append}
 use lib.Dec.{eqb}
 use Rattle.model.specs.Answers.{Outcome, result, refused}
 use Rattle.model.specs.Choice.{if_then_else_, refuseOn, firstFaulty, anyBelow}
+use Rattle.model.specs.Text.{ascii}
 use Rattle.model.specs.Table.{sameList}
 use Rattle.model.specs.Tree.{serialForest, serial}
 use Rattle.model.specs.Names.{IsNamesList, isLetter, isNameByte, allNameBytes, isName, sameName, linesOf, nameOf, lineWith, symbolOf, isListed, lineGround, namesOr}
@@ -24,15 +23,10 @@ use Rattle.model.proofs.Names.{names-list, names-back}
 use Rattle.model.proofs.Inverse.{read-exactly}
 use Rattle.model.proofs.TermRefusals.{read-refuses}
 
--- the bytes of an ASCII text
-unfoldable ascii : String → List ℕ
-ascii no-text = []
-ascii (and-text c cs) = code c ∷ ascii cs
-
 -- ---- the bytes of names and terms
 
 -- of the bytes below n, in order, those with the property
-unfoldable bytesWith : (ℕ → Bool) → ℕ → List ℕ
+unfoldable pub bytesWith : (ℕ → Bool) → ℕ → List ℕ
 bytesWith p zero = []
 bytesWith p (suc n) = bytesWith p n ++ (if p n then n ∷ [] else [])
 

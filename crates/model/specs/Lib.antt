@@ -21,4 +21,5 @@ pub mod Number
 pub mod Write
 pub mod Demand3
 pub mod TreeRefusals
+pub mod Text
 pub mod Paper

@@ -9,9 +9,7 @@ use Rattle.line.specs.Held.{Holds, Holding, part, heldAfter}
 use Rattle.line.specs.declared.Line.{Line}
 use Rattle.line.specs.declared.Fed.{Fed}
 use Rattle.line.proofs.Output.{held-more}
-use Rattle.treenum.specs.Treenum.{PrintsLine, Turned}
-use Rattle.treenum.specs.declared.Turn.{Turn}
-use Rattle.treenum.specs.declared.Turn.the-variants.{On, End}
+use Rattle.treenum.specs.Treenum.{PrintsLine}
 
 -- the first i bytes are fed
 pub record Feeds (bytes text₀ : List ℕ) (line₀ : Line) (text : List ℕ) (line : Line) (i : ℕ) : Type 0 where
@@ -39,13 +37,6 @@ module _ {bytes text₀ : List ℕ} {line₀ : Line} {text : List ℕ} {line : L
   pub feeds-last : length bytes ≤ i → (held : List ℕ) → Holds held line₀ text₀ → Holds (heldAfter held bytes) line text
   feeds-last ge held x = rw (take-all i bytes ge) at (f .holds held x)
 
--- a turn leaves some bytes held
-pub turned-on : {r : Turn} {line l : Line} {text text′ : List ℕ} → ((held : List ℕ) → Holds held line text → Turned held r text′) → r ≡ On l → Holding line text → Holding l text′
-turned-on {r} {line} {l} {text} {text′} t e h =
-    let k : Turned (h .bytes) (On l) text′ = rw e at (t (h .bytes) (h .holds)) in
-    record { bytes = heldAfter (h .bytes) (k .0); holds = k .1 }
-
-pub turned-end : {r : Turn} {line l : Line} {text text′ : List ℕ} → ((held : List ℕ) → Holds held line text → Turned held r text′) → r ≡ End l → Holding line text → Holding l text′
-turned-end {r} {line} {l} {text} {text′} t e h =
-    let k : Turned (h .bytes) (End l) text′ = rw e at (t (h .bytes) (h .holds)) in
-    record { bytes = h .bytes; holds = k }
+-- bytes are held after a read too
+pub held-on : {line l : Line} {text text′ : List ℕ} (bytes : List ℕ) → ((held : List ℕ) → Holds held line text → Holds (heldAfter held bytes) l text′) → Holding line text → Holding l text′
+held-on bytes f h = record { bytes = heldAfter (h .bytes) bytes; holds = f (h .bytes) (h .holds) }

@@ -9,7 +9,7 @@ ghost use mathlib.Core.List.{List};
 ghost use Prim.Native.Nat.{ℕ, _<_, _≤_};
 ghost use lib.ListN.{length};
 ghost use Rattle.line.specs.Held.{longestLine, Holds, Holding, Begins, part, heldAfter};
-ghost use Rattle.treenum.specs.Treenum.{printedFor, PrintsLine, Turned};
+ghost use Rattle.treenum.specs.Treenum.{printedFor, PrintsLine};
 
 // The rows of Figure 3, the accepting list, and the names of the symbols 1 and 2.
 const STATES: u64 = 5;
@@ -61,13 +61,7 @@ const ROWS: [u16; 42] = [
 
 const ACCEPTING: [u16; 2] = [2, 4];
 
-const NAMES: [u8; 4] = [97, 10, 98, 10];
-
-// The input goes on, or has ended.
-enum Turn {
-    On(Line),
-    End(Line),
-}
+const NAMES: [u8; 4] = [b'a', b'\n', b'b', b'\n'];
 
 // Feeds the bytes from a place on, to the end of a line or of the bytes; puts what is to be printed.
 fn feed_line(line: Line, bytes: &[u8], from: usize, text: &mut [u8], out: &mut [u8]) -> Fed
@@ -107,7 +101,7 @@ fn finish(line: Line, text: &[u8], out: &mut [u8])
     io::write_all(STDOUT_FILENO, &out[..n]);
 }
 
-// Feeds the bytes, and prints.
+// Feeds the bytes of a read, and prints.
 fn feed_all(line: Line, bytes: &[u8], text: &mut [u8], out: &mut [u8]) -> Line
     requires { ⌜ Holding line (now text) ⌝ }
     requires { ⌜ longestLine ≤ length (now out) ⌝ }
@@ -126,36 +120,22 @@ fn feed_all(line: Line, bytes: &[u8], text: &mut [u8], out: &mut [u8]) -> Line
     so_far
 }
 
-// One read of the input.
-fn take_turn(line: Line, text: &mut [u8], out: &mut [u8]) -> Turn
-    requires { ⌜ Holding line (now text) ⌝ }
-    requires { ⌜ longestLine ≤ length (now out) ⌝ }
-    ensures { λ r. ⌜ ((held : List ℕ) → Holds held line (now (text .entry)) → Turned held r (now (text .exit))) ⌝ }
-{
-    let mut chunk = [0u8; 4096];
-    let got = libc::read(STDIN_FILENO, &mut chunk);
-    if got <= 0 {
-        return Turn::End(line);
-    }
-    let n = io::count(got, &chunk);
-    Turn::On(feed_all(line, &chunk[..n], text, out))
-}
-
+// Reads the input to its end, and prints. No contract says which bytes a read gives, or where a write's bytes go: that each byte that is read
+// is handed on once and in order, and that each part is written once and in order, is to be read here, in `feed_all` and in `finish`.
 fn main() {
+    let mut chunk = [0u8; 4096];
     let mut text = [0u8; 4096];
     let mut out = [0u8; 53249];
     let mut line = empty_line();
     let mut turns = u64::MAX;
     while turns > 0 {
-        match take_turn(line, &mut text, &mut out) {
-            Turn::On(l) => {
-                line = l;
-                turns -= 1;
-            }
-            Turn::End(l) => {
-                finish(l, &text, &mut out);
-                return;
-            }
+        let got = libc::read(STDIN_FILENO, &mut chunk);
+        if got <= 0 {
+            finish(line, &text, &mut out);
+            return;
         }
+        let n = io::count(got, &chunk);
+        line = feed_all(line, &chunk[..n], &mut text, &mut out);
+        turns -= 1;
     }
 }

@@ -21,7 +21,7 @@ feed-line-requires : tie.Need-feed-line-requires Inv-loop μ-loop
 feed-line-requires c κs = (feeds-holding (c .before .before .before .loop .inv .0) (c .before .before .before .before .before .before .before .pre .0), search needs)
 
 counted : (c : tie.After-slice-known4 Inv-loop μ-loop) → c .before .before .before .before .feed-line .result .count ≤ length (c .before .before .before .before .feed-line .last .1 .1 .1 .1 .0)
-counted c = c .before .before .before .before .feed-line .ensures .1 _ (feeds-holding (c .before .before .before .before .before .before .before .before .loop .inv .0) (c .before .before .before .before .before .before .before .before .before .before .before .before .pre .0) .holds) .within
+counted c = c .before .before .before .before .feed-line .ensures .1 _ (feeds-holding (c .before .before .before .before .before .before .before .before .loop .inv .0) (c .before .before .before .before .before .before .before .before .before .before .before .before .pre .0) .holds) .puts .within
 
 slice-reshare-prefix-write-all : tie.Need-slice-reshare-prefix-write-all Inv-loop μ-loop
 slice-reshare-prefix-write-all c = counted c

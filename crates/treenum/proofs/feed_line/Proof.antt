@@ -1,10 +1,11 @@
 use borrow.Author.Needs.{needs}
-use Rattle.model.specs.Paper.{paperRows}
+use Rattle.model.specs.Text.{ascii}
+use Rattle.model.specs.Paper.{paperRowList, oneList, paperRows, paperNames}
 use Rattle.treenum.proofs.feed_line.Statement.{statement}
 use Rattle.treenum.proofs.feed_line.Tie as tie
 
 returns : tie.Need-returns
-unfolding paperRows
+unfolding ascii paperRowList oneList paperRows paperNames
 returns c = c .before .before .before .before .feed-line .ensures
 
 pub feed-line-spec : {M : Type 1} → statement M
