@@ -1,11 +1,10 @@
 -- "decimal digits": which bytes they are, and what they stand for, by computation. Assumes nothing.
 use Prim.Native.Nat.{ℕ}
 use mathlib.Core.Path.{_≡_, refl}
-use mathlib.Core.List.{List, [], _∷_, map}
-use Rattle.model.specs.Choice.{if_then_else_}
+use mathlib.Core.List.{[], _∷_, map}
 use Rattle.model.specs.Text.{ascii}
 use Rattle.model.proofs.TermExamples.{bytesWith}
-use Rattle.line.specs.Lines.{isDigit, allDigits, isNumber, numberAfter, numberIn, decimalBy, decimal}
+use Rattle.line.specs.Lines.{isDigit, numberAfter, numberIn, decimalBy, decimal}
 
 -- of all 256 bytes, these
 pub digit-bytes : bytesWith isDigit 256 ≡ ascii "0123456789"

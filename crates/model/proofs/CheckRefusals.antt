@@ -12,7 +12,7 @@ use lib.Dec.{eqb, ltb, leb}
 use borrow.Author.Tests.{ltb-true, ltb-false, leb-true, eqb-true, not-true, lt-ltb, le-ltb, le-leb, eq-eqb}
 use Rattle.model.specs.Answers.{Outcome, result, refused}
 use Rattle.model.specs.Choice.{if_then_else_, firstFaulty, anyBelow}
-use Rattle.model.specs.Table.{Row, Table, countAt, rowStart, rowNumbered, howManyRows, rowsOf, rowIs, howManyEntries, stateAt, tableOf}
+use Rattle.model.specs.Table.{Row, Table, countAt, rowStart, rowNumbered, howManyRows, rowIs, howManyEntries, stateAt, tableOf}
 use Rattle.model.specs.Count.{count, total, longest}
 use Rattle.model.specs.Tree.{Tree}
 use Rattle.model.specs.Reach.{Reaches, Accepted}
@@ -284,14 +284,14 @@ module _ (T : Table) (good : Good T) (q : ℕ) (l : q < T .states) where
   counted : (many : ℕ) → ReachedBy (T .rows) q many → many ≡ count T q
   counted many r = exactly-once (λ (t : Tree). Reaches (T .rows) t q) many (count T q) r (state-counted T good q l)
 
-  pub limits-ground : WithinLimits (T .rows) q → stateGround countLimit T q ≡ 0
+  pub limits-ground : WithinLimits T q → stateGround countLimit T q ≡ 0
   limits-ground w = state-ground countLimit T q (omega (arith, counted (w .many) (w .reached), w .few)) (go (eq-zero-or-pos (count T q)))
     where
       go : (count T q ≡ 0) ⊎ (0 < count T q) → longest T q ≤ 4096
       go (inl z) = omega (arith, longest-none T good q z)
       go (inr p) = let t = longest-tree T good q l p in omega (arith, t .has, w .short (t .tree) (t .reaches))
 
-  pub beyond-ground : (number : ℕ) → BeyondLimits (T .rows) q number → (stateGround countLimit T q ≡ number) × (0 < number)
+  pub beyond-ground : (number : ℕ) → BeyondLimits T q number → (stateGround countLimit T q ≡ number) × (0 < number)
   unfolding stateGround
   beyond-ground number (nine n many r a) = (rw (lt-ltb countLimit (count T q) (omega (arith, counted many r, a)), n), rw n (omega arith))
   beyond-ground number (ten n many r a t h b) = (
@@ -490,7 +490,7 @@ never-eight states rows accepting place e = go (has-ground states rows accepting
     by-row (row5 n a b c x) = omega arith
     by-row (row6 n a b c d x) = omega arith
 
-    by-state : {q : ℕ} → BeyondLimits (rowsOf rows) q 8 → ⊥
+    by-state : {q : ℕ} → BeyondLimits (tableOf states rows accepting) q 8 → ⊥
     by-state (nine n many r a) = omega arith
     by-state (ten n many r a t h b) = omega arith
 

@@ -5,6 +5,8 @@ use mathlib.Core.Bool.{Bool, true, false, _&&_, _||_}
 use mathlib.Core.Logic.{_⊎_, inl, inr}
 use native.Mathlib.Omega.{arith}
 use native.Mathlib.Nat.{not-suc-le-zero, le-of-suc-le-suc, eq-or-lt-of-le, eq-zero-or-pos}
+use lib.Dec.{ltb}
+use borrow.Author.Tests.{ltb-true, ltb-false}
 use Rattle.model.specs.Answers.{Outcome, result, refused}
 use Rattle.model.specs.Choice.{if_then_else_, refuseOn, firstFaulty, anyBelow}
 
@@ -36,6 +38,34 @@ pub if-refused : (b : Bool) (m q k p : ℕ) (o : Outcome) → (if b then refused
     → ((b ≡ true) × (k ≡ m) × (p ≡ q)) ⊎ ((b ≡ false) × (o ≡ refused k p))
 if-refused true m q k p o e = inl (refl, sym (refused-number e), sym (refused-place e))
 if-refused false m q k p o e = inr (refl, e)
+
+-- an answer that is no refusal, and no result but one: it is that result
+pub result-only : (o : Outcome) (n : ℕ) → ((t : ℕ) → o ≡ result t → t ≡ n) → ((k p : ℕ) → o ≡ refused k p → ⊥) → o ≡ result n
+result-only (result t) n f h = ap result (f t refl)
+result-only (refused k p) n f h = absurd (h k p refl)
+
+-- an answer that is no result, and no refusal but one: it is that refusal
+pub refused-only : (o : Outcome) (k p : ℕ) → ((t : ℕ) → o ≡ result t → ⊥) → ((m q : ℕ) → o ≡ refused m q → (m ≡ k) × (q ≡ p)) → o ≡ refused k p
+refused-only (result t) k p h f = absurd (h t refl)
+refused-only (refused m q) k p h f = let e = f m q refl in rw (e .0, e .1)
+
+-- two places, neither before the other
+pub one-place : (p q : ℕ) → (p < q → ⊥) → (q < p → ⊥) → p ≡ q
+one-place p q f g = go (ltb p q) (ltb q p) (ltb-true p q) (ltb-true q p) (ltb-false p q) (ltb-false q p)
+  where
+    go : (a b : Bool) → (a ≡ true → p < q) → (b ≡ true → q < p) → (a ≡ false → q ≤ p) → (b ≡ false → p ≤ q) → p ≡ q
+    go true b h k m n = absurd (f (h refl))
+    go false true h k m n = absurd (g (k refl))
+    go false false h k m n = omega (arith, m refl, n refl)
+
+-- the refusal behind a test that holds
+pub if-place : (b : Bool) (m q p : ℕ) (o : Outcome) → b ≡ true → p ≡ q → (if b then refused m q else o) ≡ refused m p
+if-place b m q p o e d = rw (e, d)
+
+-- a ground that holds: its test does, and it has its number
+pub if-some : (b : Bool) (n : ℕ) → 0 < (if b then n else 0) → (b ≡ true) × ((if b then n else 0) ≡ n)
+if-some true n p = (refl, refl)
+if-some false n p = absurd (not-suc-le-zero p)
 
 -- no ground where there is a ground first: its test does not hold
 pub if-zero : (b : Bool) (k n : ℕ) → (if b then suc k else n) ≡ 0 → (b ≡ false) × (n ≡ 0)

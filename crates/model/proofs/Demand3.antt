@@ -17,7 +17,7 @@ use Rattle.model.specs.Count.{sum, Counts, count}
 use Rattle.model.specs.Value.{numberOf, treeOf}
 use Rattle.model.specs.Order.{Exactly, ComeBefore}
 use Rattle.model.specs.Check.{checkOutcome, countLimit, Passes}
-use Rattle.model.specs.Entries.{treeFrom, noTree}
+use Rattle.model.specs.Entries.{treeFrom}
 use Rattle.model.specs.Place.{NotAccepted}
 use Rattle.model.specs.Number.{checkedThen, acceptedOr, numberTree, numberOutcome}
 use Rattle.model.specs.Write.{treeEntries, writeTree, writeTreeList, entriesFor, writeOutcome, writeList}

@@ -68,23 +68,23 @@ module _ (T : Table) (good : Good T) where
   unfolding serial sum
   tree-most t q r = omega (arith, forest-most T good r)
 
-  pub within-limits : (q : ℕ) → q < T .states → stateGround countLimit T q ≡ 0 → WithinLimits (T .rows) q
+  pub within-limits : (q : ℕ) → q < T .states → stateGround countLimit T q ≡ 0 → WithinLimits T q
   within-limits q l e =
       let s = state-good countLimit T q e in
       record { many = count T q; reached = state-counted q l; few = s .0; short = λ t r. omega (arith, tree-most t q r, s .1) }
 
-  pub beyond-limits : (q : ℕ) → q < T .states → 0 < stateGround countLimit T q → BeyondLimits (T .rows) q (stateGround countLimit T q)
+  pub beyond-limits : (q : ℕ) → q < T .states → 0 < stateGround countLimit T q → BeyondLimits T q (stateGround countLimit T q)
   unfolding stateGround
   beyond-limits q l = go (ltb countLimit (count T q)) (ltb 4096 (longest T q)) (ltb-true countLimit (count T q)) (ltb-false countLimit (count T q)) (ltb-true 4096 (longest T q))
     where
-      long : count T q ≤ countLimit → 4096 < longest T q → (count T q ≡ 0) ⊎ (0 < count T q) → BeyondLimits (T .rows) q 10
+      long : count T q ≤ countLimit → 4096 < longest T q → (count T q ≡ 0) ⊎ (0 < count T q) → BeyondLimits T q 10
       long f m (inl z) = absurd (omega (arith, longest-none T good q z))
       long f m (inr p) =
           let t = longest-tree T good q l p in
           ten refl (count T q) (state-counted q l) f (t .tree) (t .reaches) (omega (arith, t .has))
 
       go : (b d : Bool) → (b ≡ true → countLimit < count T q) → (b ≡ false → count T q ≤ countLimit) → (d ≡ true → 4096 < longest T q)
-          → 0 < (if b then 9 else if d then 10 else 0) → BeyondLimits (T .rows) q (if b then 9 else if d then 10 else 0)
+          → 0 < (if b then 9 else if d then 10 else 0) → BeyondLimits T q (if b then 9 else if d then 10 else 0)
       go true d x y z p = nine refl (count T q) (state-counted q l) (x refl)
       go false true x y z p = long (y refl) (z refl) (eq-zero-or-pos (count T q))
       go false false x y z p = absurd (omega arith)

@@ -1,8 +1,7 @@
 -- "The paper's own table", checked by computation.
-use Prim.Native.Nat.{ℕ}
 use mathlib.Core.Path.{_≡_, refl}
 use mathlib.Core.Bool.{true}
-use mathlib.Core.List.{List, [], _∷_, map}
+use mathlib.Core.List.{[], _∷_, map}
 use Rattle.model.specs.Answers.{result}
 use Rattle.model.specs.Choice.{refuseOn, firstFaulty, anyBelow}
 use Rattle.model.specs.Table.{rowStart, howMany, howManyRows, firstRows, rowsOf, tableOf, sameList, rowIs}

@@ -19,7 +19,7 @@ use Rattle.model.specs.Entries.{openAfter, entryGround, endsTooSoon, for
 use Rattle.model.specs.Term.{textOfTerms, textOf, step, scan, termOr, run, nameBegins, before, seenFrom, termFrom}
 use Rattle.model.specs.TermOperations.{symbolsOf, entriesOf, nameGround, readTermOutcome, readTermList}
 use Rattle.model.specs.Number.{reachesNone, stuckOr, acceptedOr, numberTree, numberOutcome}
-use Rattle.model.specs.Write.{treeEntries, writeTree, entriesFor, writeOutcome}
+use Rattle.model.specs.Write.{writeTree, entriesFor, writeOutcome}
 use Rattle.model.specs.Text.{ascii}
 use Rattle.model.specs.Paper.{paperStates, paperRowList, oneList, paperRows, paperAccepting, paperNames}
 use Rattle.model.proofs.Counting.{map-agree}

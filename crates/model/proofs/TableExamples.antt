@@ -10,7 +10,7 @@ use lib.Dec.{eqb, ltb}
 use borrow.Author.Tests.{lt-ltb, le-ltb, ne-eqb}
 use Rattle.model.specs.Answers.{Outcome, result, refused}
 use Rattle.model.specs.Choice.{if_then_else_, refuseOn, firstFaulty, anyBelow}
-use Rattle.model.specs.Table.{rowStart, howMany, howManyRows, firstRows, rowsOf, tableOf, sameList, rowIs}
+use Rattle.model.specs.Table.{rowStart, howMany, howManyRows, firstRows, rowsOf, sameList, rowIs}
 use Rattle.model.specs.Tree.{serialForest, serial}
 use Rattle.model.specs.Reach.{rowWith, statesOf, entryOf}
 use Rattle.model.specs.Count.{sum, product, weight, stateCounts, grow, count, total, largest, rowLongest, stateLongest, longest}

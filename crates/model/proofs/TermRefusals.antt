@@ -19,49 +19,13 @@ use Rattle.model.specs.Term.{Terms, none, term, alone, textOfTerms, text
 use Rattle.model.specs.TermOperations.{AllListed, entriesOf, bytesOf, nameGround, readTermOutcome, symbolGround, writeTermOutcome}
 use Rattle.model.specs.Place.{CanGoOn, StopsAt}
 use Rattle.model.specs.TermRefusals.{firstLines, FaultyLine, Placed, namesFrom, FirstUnlisted, FirstUnnamed, ReadRefused, read17, read18, read19, read20, read21, read22, WriteRefused, write17, write12, write13, write23, write24, ReadRefuses, WriteRefuses, ReadRefusedOnce, WriteRefusedOnce, ReadElse, WriteElse}
-use Rattle.model.proofs.Choice.{if-no, if-zero, not-both, no-fault, no-fault-back, refused-number, refused-place, Decided, clear, faulty, decided}
+use Rattle.model.proofs.Choice.{if-no, if-zero, not-both, no-fault, no-fault-back, refused-number, refused-place, Decided, clear, faulty, decided, if-refused, result-only, refused-only, one-place, if-place, if-some}
 use Rattle.model.proofs.Bytes.{open-no-byte, close-no-byte, comma-no-byte, end-no-byte, byte-first, byte-others, name-parts, name-bytes, NoByte, run-all}
 use Rattle.model.proofs.Entries.{form-place, tree-or-taken, tree-or-back}
 use Rattle.model.proofs.Scan.{bracketed, following, text-after, whole-term, scan-place, term-or-taken, term-or-back}
 use Rattle.model.proofs.Names.{Sound, SoundLine, line-clear, clear-line, sound-line, lines-sound, some-lines, names-list, list-sound, names-taken, names-back}
 use Rattle.model.proofs.Listed.{brackets-stop, comma-stop, begins, begins-next, begins-first, listed-names, names-listed, symbol-low, low-symbol, terms-length}
 use Rattle.model.proofs.Inverse.{read-back, write-back}
-
--- ---- one ground after another
-
--- a refusal behind a test: the test holds, and it is that refusal; or what follows is the refusal
-pub if-refused : (b : Bool) (m q k p : ℕ) (o : Outcome) → (if b then refused m q else o) ≡ refused k p
-    → ((b ≡ true) × (k ≡ m) × (p ≡ q)) ⊎ ((b ≡ false) × (o ≡ refused k p))
-if-refused true m q k p o e = inl (refl, sym (refused-number e), sym (refused-place e))
-if-refused false m q k p o e = inr (refl, e)
-
--- an answer that is no refusal, and no result but one: it is that result
-pub result-only : (o : Outcome) (n : ℕ) → ((t : ℕ) → o ≡ result t → t ≡ n) → ((k p : ℕ) → o ≡ refused k p → ⊥) → o ≡ result n
-result-only (result t) n f h = ap result (f t refl)
-result-only (refused k p) n f h = absurd (h k p refl)
-
--- an answer that is no result, and no refusal but one: it is that refusal
-pub refused-only : (o : Outcome) (k p : ℕ) → ((t : ℕ) → o ≡ result t → ⊥) → ((m q : ℕ) → o ≡ refused m q → (m ≡ k) × (q ≡ p)) → o ≡ refused k p
-refused-only (result t) k p h f = absurd (h t refl)
-refused-only (refused m q) k p h f = let e = f m q refl in rw (e .0, e .1)
-
--- two places, neither before the other
-pub one-place : (p q : ℕ) → (p < q → ⊥) → (q < p → ⊥) → p ≡ q
-one-place p q f g = go (ltb p q) (ltb q p) (ltb-true p q) (ltb-true q p) (ltb-false p q) (ltb-false q p)
-  where
-    go : (a b : Bool) → (a ≡ true → p < q) → (b ≡ true → q < p) → (a ≡ false → q ≤ p) → (b ≡ false → p ≤ q) → p ≡ q
-    go true b h k m n = absurd (f (h refl))
-    go false true h k m n = absurd (g (k refl))
-    go false false h k m n = omega (arith, m refl, n refl)
-
--- the refusal behind a test that holds
-pub if-place : (b : Bool) (m q p : ℕ) (o : Outcome) → b ≡ true → p ≡ q → (if b then refused m q else o) ≡ refused m p
-if-place b m q p o e d = rw (e, d)
-
--- a ground that holds: its test does, and it has its number
-pub if-some : (b : Bool) (n : ℕ) → 0 < (if b then n else 0) → (b ≡ true) × ((if b then n else 0) ≡ n)
-if-some true n p = (refl, refl)
-if-some false n p = absurd (not-suc-le-zero p)
 
 -- ---- 17
 

@@ -2,36 +2,29 @@
 use Prim.Native.Nat.{ℕ, _≤_, _<_}
 use mathlib.Core.Path.{_≡_, refl, ap, sym, _∙_, subst}
 use mathlib.Core.List.{List}
-use mathlib.Core.Logic.{_↔_}
 use native.Mathlib.Omega.{arith}
 use lib.ListN.{length}
 use native.Mathlib.Decide.{decLe}
 use native.Mathlib.Nat.{lt-of-not-le}
-use borrow.Author.Tests.{lt-ltb}
 use Rattle.model.specs.Answers.{Outcome, result, refused}
 use Rattle.model.specs.Table.{Table, tableOf}
-use Rattle.model.specs.Tree.{Tree, only, serial, SymbolsInRange, WellFormed}
+use Rattle.model.specs.Tree.{serial, WellFormed}
 use Rattle.model.specs.Reach.{Accepted}
 use Rattle.model.specs.Count.{count}
 use Rattle.model.specs.Value.{numberOf}
 use Rattle.model.specs.Check.{checkOutcome, Passes}
-use Rattle.model.specs.Place.{StopsAt, NotAccepted}
+use Rattle.model.specs.Place.{NotAccepted}
 use Rattle.model.specs.Number.{acceptedOr, numberTree, numberOutcome}
 use Rattle.model.specs.Entries.{treeOr, treeFrom}
-use Rattle.model.specs.Write.{entriesFor, writeOutcome}
+use Rattle.model.specs.Write.{writeTreeList, entriesFor, writeOutcome, writeList}
 use Rattle.model.specs.Demand3.{HasTree}
-use Rattle.model.specs.TreeRefusals.{NumberRefused, numberAsCheck, number12, number13, number14, TreeRefused, treeAsCheck, tree15, tree16, NumberRefuses, TreeRefuses}
-use Rattle.model.proofs.Choice.{refused-number, refused-place}
+use Rattle.model.specs.TreeRefusals.{NumberRefused, numberAsCheck, number12, number13, number14, TreeRefused, treeAsCheck, tree15, tree16, NumberRefuses, TreeRefuses, TreeLent}
+use Rattle.model.proofs.Choice.{refused-number, refused-place, refused-only}
 use Rattle.model.proofs.Serial.{serial-same}
-use Rattle.model.proofs.Entries.{tree-or-back}
+use Rattle.model.proofs.Writing.{lent-told}
 use Rattle.model.proofs.Stuck.{not-accepted, not-accepted-once}
-use Rattle.model.proofs.TermRefusals.{TreePlace, long, no-tree, after, tree-place, stops-once}
-use Rattle.model.proofs.Demand3.{checked-then, demand3, refuses-first, passing-sound, answer-number, number-refused, write-answer, short-answer, beyond-answer, entries-back, reach-symbols}
-
--- "More than 4,096 entries is 12."
-too-long : (tree : List ℕ) (o : Outcome) → 4096 < length tree → treeOr tree o ≡ refused 12 0
-unfolding treeOr
-too-long tree o l = rw (lt-ltb 4096 (length tree) l)
+use Rattle.model.proofs.TermRefusals.{TreePlace, long, no-tree, after, tree-place, tree-long, tree-refused}
+use Rattle.model.proofs.Demand3.{checked-then, demand3, refuses-first, passing-sound, answer-number, number-refused, write-answer, short-answer, beyond-answer, entries-back, reach-symbols, write-tree-back}
 
 module _ (states : ℕ) (rows accepting : List ℕ) where
   abbrev T : Table
@@ -72,22 +65,11 @@ module _ (states : ℕ) (rows accepting : List ℕ) where
 
   ground-number : (tree : List ℕ) (number place : ℕ) → NumberRefused states rows accepting tree number place → numberOutcome states rows accepting tree ≡ refused number place
   ground-number tree number place (numberAsCheck c) = refuses-first states rows accepting number place c .numbering tree
-  ground-number tree number place (number12 x y total passes l) = same-refusal (numbers-by total passes tree ∙ too-long tree _ l) (sym x) (sym y)
-  ground-number tree number place (number13 x total passes l s) = go (numberOutcome states rows accepting tree) refl
-    where
-      at : {k p : ℕ} {o : Outcome} → TreePlace tree k p o → (k ≡ 13) × (p ≡ place)
-      at (long y z m) = absurd (omega arith)
-      at {p = p} (no-tree y m r) = (y, stops-once WellFormed tree p place r s)
-      at (after m w z) = absurd (s .short w)
-
-      go : (o : Outcome) → numberOutcome states rows accepting tree ≡ o → o ≡ refused number place
-      go (result m) e = absurd (s .short (tree-or-back tree m _ (sym (numbers-by total passes tree) ∙ e) .0))
-      go (refused k p) e = let q = at (tree-place tree k p _ (sym (numbers-by total passes tree) ∙ e)) in same-refusal refl (q .0 ∙ sym x) (q .1)
-  ground-number tree number place (number14 x total passes l w n) = go (numberOutcome states rows accepting tree) refl
-    where
-      go : (o : Outcome) → numberOutcome states rows accepting tree ≡ o → o ≡ refused number place
-      go (result m) e = absurd (not-numbered total passes tree w place m n e)
-      go (refused k p) e = let q = number-refused states rows accepting total passes tree w l k p e in same-refusal refl (q .0 ∙ sym x) (not-accepted-once (q .1) n)
+  ground-number tree number place (number12 x y total passes l) = rw x (numbers-by total passes tree ∙ tree-long tree place l y _)
+  ground-number tree number place (number13 x total passes l s) = rw x (numbers-by total passes tree ∙ tree-refused tree place l s _)
+  ground-number tree number place (number14 x total passes l w n) =
+      refused-only (numberOutcome states rows accepting tree) number place (λ m e. not-numbered total passes tree w place m n e)
+      (λ k p e. let q = number-refused states rows accepting total passes tree w l k p e in (q .0 ∙ sym x, not-accepted-once (q .1) n))
 
   -- ---- writing
 
@@ -133,3 +115,9 @@ number-refuses states rows accepting tree number place = (number-ground states r
 
 pub tree-refuses : TreeRefuses
 tree-refuses states rows accepting n room number place = (tree-ground states rows accepting n room number place, ground-tree states rows accepting n room number place)
+
+pub tree-lent : TreeLent
+unfolding writeList writeTreeList writeOutcome entriesFor
+tree-lent states rows accepting number tree =
+    lent-told (writeOutcome states rows accepting number (length tree)) (entriesFor states rows accepting number) tree
+    (λ n e. write-tree-back states rows accepting number (length tree) n e)

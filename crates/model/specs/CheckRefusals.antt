@@ -5,7 +5,7 @@ use mathlib.Core.Logic.{_⊎_, _↔_}
 use mathlib.Core.List.{List}
 use lib.ListN.{length, getD}
 use Rattle.model.specs.Answers.{result, refused}
-use Rattle.model.specs.Table.{Row, countAt, rowStart, rowNumbered, rowsOf, howManyEntries, stateAt, tableOf}
+use Rattle.model.specs.Table.{Row, countAt, rowStart, rowNumbered, howManyEntries, stateAt, tableOf}
 use Rattle.model.specs.Count.{total}
 use Rattle.model.specs.Check.{checkOutcome}
 use Rattle.model.specs.Limits.{FirstBeyond, TotalBeyond}
@@ -96,7 +96,7 @@ pub data CheckRefused (states : ℕ) (rows accepting : List ℕ) (number place :
       → CheckRefused states rows accepting number place
   -- "a list longer than the count of states is 8": after 7 there is none, and so no table is refused by 8 (the law `never-eight`)
   -- 9 and 10: "Then states are taken in turn from 0, the first faulty state decides, and its number is the place"
-  check9to10 : states ≤ 256 → FaultlessRows states rows → FaultlessEntries states accepting → place < states → FirstBeyond (rowsOf rows) place number
+  check9to10 : states ≤ 256 → FaultlessRows states rows → FaultlessEntries states accepting → place < states → FirstBeyond (tableOf states rows accepting) place number
       → CheckRefused states rows accepting number place
   -- "Last, a total above 4,294,967,295 is 11."
   check11 : number ≡ 11 → states ≤ 256 → FaultlessRows states rows → FaultlessEntries states accepting → TotalBeyond (tableOf states rows accepting) place

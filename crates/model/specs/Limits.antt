@@ -14,26 +14,26 @@ abbrev pub ReachedBy : List Row → (q many : ℕ) → Type 0
 ReachedBy rows q many = Exactly (λ (t : Tree). Reaches rows t q) many
 
 -- neither 9 nor 10 holds of the state
-pub record WithinLimits (rows : List Row) (q : ℕ) : Type 0 where
+pub record WithinLimits (T : Table) (q : ℕ) : Type 0 where
   pub many : ℕ
-  pub reached : ReachedBy rows q many
+  pub reached : ReachedBy (T .rows) q many
   pub few : many ≤ countLimit
-  pub short : (t : Tree) → Reaches rows t q → length (serial t) ≤ 4096
+  pub short : (t : Tree) → Reaches (T .rows) t q → length (serial t) ≤ 4096
 
 -- "for each, a count above 4,294,967,295 is 9, and after that a longest tree above 4,096 entries is 10"
-pub data BeyondLimits (rows : List Row) (q number : ℕ) : Type 0 where
-  nine : number ≡ 9 → (many : ℕ) → ReachedBy rows q many → countLimit < many → BeyondLimits rows q number
-  ten : number ≡ 10 → (many : ℕ) → ReachedBy rows q many → many ≤ countLimit → (t : Tree) → Reaches rows t q → 4096 < length (serial t) → BeyondLimits rows q number
+pub data BeyondLimits (T : Table) (q number : ℕ) : Type 0 where
+  nine : number ≡ 9 → (many : ℕ) → ReachedBy (T .rows) q many → countLimit < many → BeyondLimits T q number
+  ten : number ≡ 10 → (many : ℕ) → ReachedBy (T .rows) q many → many ≤ countLimit → (t : Tree) → Reaches (T .rows) t q → 4096 < length (serial t) → BeyondLimits T q number
 
 -- "Then states are taken in turn from 0, the first faulty state decides, and its number is the place"
-pub record FirstBeyond (rows : List Row) (q number : ℕ) : Type 0 where
-  pub before : (a : ℕ) → a < q → WithinLimits rows a
-  pub here : BeyondLimits rows q number
+pub record FirstBeyond (T : Table) (q number : ℕ) : Type 0 where
+  pub before : (a : ℕ) → a < q → WithinLimits T a
+  pub here : BeyondLimits T q number
 
 -- "Last, a total above 4,294,967,295 is 11."
 pub record TotalBeyond (T : Table) (place : ℕ) : Type 0 where
   pub zero-place : place ≡ 0
-  pub states : (q : ℕ) → q < T .states → WithinLimits (T .rows) q
+  pub states : (q : ℕ) → q < T .states → WithinLimits T q
   pub many : ℕ
   pub accepted : Exactly (Accepted T) many
   pub beyond : countLimit < many

@@ -4,13 +4,13 @@ use mathlib.Core.Path.{_≡_}
 use mathlib.Core.Logic.{_↔_}
 use mathlib.Core.List.{List}
 use lib.ListN.{length}
-use Rattle.model.specs.Answers.{refused}
+use Rattle.model.specs.Answers.{refused, Lent}
 use Rattle.model.specs.Table.{tableOf}
 use Rattle.model.specs.Tree.{serial, WellFormed}
 use Rattle.model.specs.Check.{checkOutcome, Passes}
 use Rattle.model.specs.Place.{StopsAt, NotAccepted}
 use Rattle.model.specs.Number.{numberOutcome}
-use Rattle.model.specs.Write.{writeOutcome}
+use Rattle.model.specs.Write.{entriesFor, writeOutcome, writeList}
 use Rattle.model.specs.Demand3.{HasTree}
 
 module _ (states : ℕ) (rows accepting : List ℕ) where
@@ -48,3 +48,9 @@ abbrev pub TreeRefuses : Type 0
 TreeRefuses =
     (states : ℕ) (rows accepting : List ℕ) (n room number place : ℕ)
     → (writeOutcome states rows accepting n room ≡ refused number place) ↔ TreeRefused states rows accepting n room number place
+
+-- what the lent list then holds (the law `tree-lent`)
+abbrev pub TreeLent : Type 0
+TreeLent =
+    (states : ℕ) (rows accepting : List ℕ) (number : ℕ) (tree : List ℕ)
+    → Lent (writeOutcome states rows accepting number (length tree)) (entriesFor states rows accepting number) tree (writeList states rows accepting number tree)
