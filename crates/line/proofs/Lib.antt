@@ -8,4 +8,5 @@ pub mod Putting
 pub mod Answering
 pub mod Walking
 pub mod Run
+pub mod OneLine
 pub mod Samples
