@@ -1,6 +1,5 @@
 -- The three ways: the row has no tree, its longest is longer, or it is not.
 use Prim.Native.Nat.{_<_, _≤_}
-use mathlib.Core.Path.{_≡_}
 use native.Mathlib.Nat.{pos-of-ne-zero, max-zero}
 use native.Mathlib.Omega.{arith}
 use borrow.Author.Tests.{lt-ltb, le-ltb}
