@@ -1,6 +1,6 @@
 -- Each refusal of a table has its ground, its number and its place; where no ground holds, the answer is the total.
 use Prim.Native.Nat.{ℕ, suc, _+_, _-_, _≤_, _<_}
-use mathlib.Core.Path.{_≡_, refl, ap, sym, subst, _∙_}
+use mathlib.Core.Path.{_≡_, refl, sym, subst, _∙_}
 use mathlib.Core.Bool.{Bool, true, false, not, _&&_, _||_}
 use mathlib.Core.Logic.{_⊎_, inl, inr, _↔_}
 use mathlib.Core.List.{List, [], _∷_}
@@ -19,7 +19,7 @@ use Rattle.model.specs.Reach.{Reaches, Accepted}
 use Rattle.model.specs.Check.{allBelow, isState, cut, tooMany, outOfRange, notBelow, repeated, rowGround, acceptingGround, stateGround, checkWithin, checkOutcome, countLimit}
 use Rattle.model.specs.Limits.{ReachedBy, WithinLimits, BeyondLimits, nine, ten}
 use Rattle.model.specs.CheckRefusals.{Begins, RowCut, RowTooMany, SomeArgument, RowOutOfRange, RowNotBelow, RowRepeated, RowRefused, row2, row3, row4, row5, row6, FaultlessRow, FaultlessRows, EntryFaulty, FaultlessEntries, CheckRefused, check1, check2to6, check7, check9to10, check11, CheckRefuses, CheckGives}
-use Rattle.model.proofs.Choice.{if-no, if-yes, if-zero, refused-number, refused-place, or-true, or-left, or-right, not-both, is-false, no-fault, fault-refused, any-true, any-some, if-refused, Decided, clear, faulty, decided}
+use Rattle.model.proofs.Choice.{if-no, if-yes, if-zero, refused-number, refused-place, or-true, or-left, or-right, not-both, is-false, no-fault, fault-refused, any-true, any-some, if-refused, result-only, Decided, clear, faulty, decided}
 use Rattle.model.proofs.Good.{Good}
 use Rattle.model.proofs.Exactly.{exactly-once}
 use Rattle.model.proofs.Longest.{longest-none, longest-tree}
@@ -459,7 +459,7 @@ check-refuses states rows accepting number place = (has-ground states rows accep
 
 -- where no ground holds, the answer is the total
 pub check-gives : CheckGives
-check-gives states rows accepting n = (there, λ p. back (p .0) (p .1) (checkOutcome states rows accepting) refl)
+check-gives states rows accepting n = (there, back)
   where
     there : checkOutcome states rows accepting ≡ result n
         → ((number place : ℕ) → CheckRefused states rows accepting number place → ⊥) × (n ≡ total (tableOf states rows accepting))
@@ -468,10 +468,11 @@ check-gives states rows accepting n = (there, λ p. back (p .0) (p .1) (checkOut
       passes-just states rows accepting n .0 e .1,
     )
 
-    back : ((number place : ℕ) → CheckRefused states rows accepting number place → ⊥) → n ≡ total (tableOf states rows accepting)
-        → (o : Outcome) → checkOutcome states rows accepting ≡ o → checkOutcome states rows accepting ≡ result n
-    back h t (result m) e = e ∙ ap result (passes-just states rows accepting m .0 e .1 ∙ sym t)
-    back h t (refused number place) e = absurd (h number place (has-ground states rows accepting number place e))
+    back : ((number place : ℕ) → CheckRefused states rows accepting number place → ⊥) × (n ≡ total (tableOf states rows accepting))
+        → checkOutcome states rows accepting ≡ result n
+    back p =
+        result-only (checkOutcome states rows accepting) n (λ t e. passes-just states rows accepting t .0 e .1 ∙ sym (p .1))
+        (λ number place e. p .0 number place (has-ground states rows accepting number place e))
 
 -- at most one ground is the first: its number and its place are the only ones
 pub ground-once : (states : ℕ) (rows accepting : List ℕ) (m p n q : ℕ) → CheckRefused states rows accepting m p → CheckRefused states rows accepting n q → (m ≡ n) × (p ≡ q)
