@@ -24,7 +24,7 @@ use Rattle.chains.specs.First.{FirstAt}
 use Rattle.counts.specs.declared.Counted.{Counted}
 use Rattle.counts.specs.declared.StateFault.the-variants.{At, Nothing}
 use Rattle.counts.specs.Chain.{target, InOrder}
-use Rattle.counts.specs.States.{ceiling, lengthCeiling, held, Summed, rowTable, Known, CountedStates, Given, Countable}
+use Rattle.counts.specs.States.{ceiling, lengthCeiling, held, Summed, rowTable, CountsKnown, CountedStates, Given, Countable}
 use Rattle.counts.proofs.Kept.{kept-above, kept-within}
 
 -- the rows of the table are in order
@@ -57,7 +57,7 @@ earlier-le : (rs : List Row) (c : ℕ → ℕ) (q k : ℕ) → earlierRows rs c 
 unfolding earlierRows stateCounts
 earlier-le rs c q k = sum-take-le (map (weight c q) rs) k
 
-pub known-begins : (states : ℕ) (rows cs ls sums : List ℕ) → length cs ≡ 256 → length ls ≡ 256 → length sums ≡ 1024 → Known states rows 0 cs ls sums
+pub known-begins : (states : ℕ) (rows cs ls sums : List ℕ) → length cs ≡ 256 → length ls ≡ 256 → length sums ≡ 1024 → CountsKnown states rows 0 cs ls sums
 known-begins states rows cs ls sums a b d = record {
   cs-long = a;
   ls-long = b;
@@ -68,7 +68,7 @@ known-begins states rows cs ls sums a b d = record {
   earlier = λ k lt h. absurd (omega arith);
 }
 
-module _ {states : ℕ} {rows offsets first after cs ls sums : List ℕ} {q : ℕ} (g : Given states rows offsets first after) (x : Known states rows q cs ls sums) (lt : q < states) where
+module _ {states : ℕ} {rows offsets first after cs ls sums : List ℕ} {q : ℕ} (g : Given states rows offsets first after) (x : CountsKnown states rows q cs ls sums) (lt : q < states) where
   small : (a : ℕ) → a < q → (held cs a ≤ countLimit) × (held ls a ≤ 4096)
   small a l =
       let s = state-good countLimit (rowTable states rows) a (x .fine a l) in
@@ -153,7 +153,7 @@ module _ {states : ℕ} {rows offsets first after cs ls sums : List ℕ} {q : �
           let m : target rows k ≡ q = omega (arith, ltb-false (target rows k) q e) in
           rw m (earlier-mine k l m)
 
-      pub known-more : Known states rows (q + 1) (set cs q (s .count)) (set ls q (s .longest)) sums′
+      pub known-more : CountsKnown states rows (q + 1) (set cs q (s .count)) (set ls q (s .longest)) sums′
       known-more = record {
         cs-long = length-set cs q (s .count) ∙ x .cs-long;
         ls-long = length-set ls q (s .longest) ∙ x .ls-long;
@@ -168,7 +168,7 @@ module _ {states : ℕ} {rows offsets first after cs ls sums : List ℕ} {q : �
         earlier = λ k l h. earlier-more k l h (ltb (target rows k) q) refl;
       }
 
-pub all-known : {states : ℕ} {rows cs ls sums : List ℕ} {q : ℕ} → Known states rows q cs ls sums → q ≡ states → CountedStates states rows cs ls sums Nothing
+pub all-known : {states : ℕ} {rows cs ls sums : List ℕ} {q : ℕ} → CountsKnown states rows q cs ls sums → q ≡ states → CountedStates states rows cs ls sums Nothing
 all-known {states} {rows} {cs} {ls} {sums} {q} x e = record {
   all = λ h. rw e at x;
   fault = λ m k h. let z : _≡_ {A = ℕ} 0 1 = cc in absurd (omega arith);

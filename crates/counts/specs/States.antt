@@ -31,7 +31,7 @@ abbrev pub held : List ℕ → ℕ → ℕ
 held xs q = getD xs q 0
 
 -- every argument has a place in the list, and what stands there is at most the bound
-pub record Within (bound : ℕ) (xs args : List ℕ) : Type 0 where
+pub record ArgsWithin (bound : ℕ) (xs args : List ℕ) : Type 0 where
   pub placed : (k : ℕ) → k < length args → getD args k 0 < 256
   pub small : (k : ℕ) → k < length args → held xs (getD args k 0) ≤ bound
 
@@ -52,7 +52,7 @@ abbrev pub rowTable : ℕ → List ℕ → Table
 rowTable states rows = tableOf states rows []
 
 -- the states below q are counted, and none of them is faulty
-pub record Known (states : ℕ) (rows : List ℕ) (q : ℕ) (cs ls sums : List ℕ) : Type 0 where
+pub record CountsKnown (states : ℕ) (rows : List ℕ) (q : ℕ) (cs ls sums : List ℕ) : Type 0 where
   pub cs-long : length cs ≡ 256
   pub ls-long : length ls ≡ 256
   pub sums-long : length sums ≡ 1024
@@ -63,7 +63,7 @@ pub record Known (states : ℕ) (rows : List ℕ) (q : ℕ) (cs ls sums : List �
 
 -- all states are counted, or the first faulty one is found
 pub record CountedStates (states : ℕ) (rows : List ℕ) (cs ls sums : List ℕ) (r : StateFault) : Type 0 where
-  pub all : r ≡ Nothing → Known states rows states cs ls sums
+  pub all : r ≡ Nothing → CountsKnown states rows states cs ls sums
   pub fault : (q : ℕ) (k : Kind) → r ≡ At q k → FirstAt states (stateGround countLimit (rowTable states rows)) q (kindNumber k)
 
 -- what the states are counted from: rows that stand at their offsets, in order, chained by target
@@ -79,11 +79,11 @@ pub record Countable (rows offsets first after cs ls sums : List ℕ) (q : ℕ) 
   pub state : q < 256
   pub sums-long : length sums ≡ 1024
   pub short : (r : ℕ) → r < howManyRows rows → target rows r ≡ q → length (rowNumbered rows r .args) ≤ 16
-  pub counted : (r : ℕ) → r < howManyRows rows → target rows r ≡ q → Within countLimit cs (rowNumbered rows r .args)
-  pub measured : (r : ℕ) → r < howManyRows rows → target rows r ≡ q → Within 4096 ls (rowNumbered rows r .args)
+  pub counted : (r : ℕ) → r < howManyRows rows → target rows r ≡ q → ArgsWithin countLimit cs (rowNumbered rows r .args)
+  pub measured : (r : ℕ) → r < howManyRows rows → target rows r ≡ q → ArgsWithin 4096 ls (rowNumbered rows r .args)
 
 -- what counting the states in turn starts from
-pub record Ready (states : ℕ) (rows offsets first after cs ls sums : List ℕ) : Type 0 where
+pub record CountReady (states : ℕ) (rows offsets first after cs ls sums : List ℕ) : Type 0 where
   pub given : Given states rows offsets first after
   pub cs-long : length cs ≡ 256
   pub ls-long : length ls ≡ 256

@@ -8,7 +8,7 @@ ghost use Rattle.model.specs.Count.{sum, product};
 ghost use Rattle.model.specs.Check.{countLimit};
 ghost use Rattle.rows.specs.Laid.{Laid};
 ghost use Rattle.counts.specs.Chain.{target, Chained, Unchained};
-ghost use Rattle.counts.specs.States.{ceiling, lengthCeiling, held, Within, longer, Summed, Countable, Ready, CountedStates};
+ghost use Rattle.counts.specs.States.{ceiling, lengthCeiling, held, ArgsWithin, longer, Summed, Countable, CountReady, CountedStates};
 
 // The largest count and the largest total that pass.
 pub const LIMIT: u64 = 4294967295;
@@ -54,7 +54,7 @@ fn plus(a: u64, b: u64) -> u64
 
 // What a row with these arguments counts, kept to one above the limit.
 fn row_count(args: &[u16], counts: &[u64; 256]) -> u64
-    requires { ⌜ Within countLimit (now counts) (now args) ⌝ }
+    requires { ⌜ ArgsWithin countLimit (now counts) (now args) ⌝ }
     ensures { λ r. ⌜ r ≡ min (product (map (held (now (counts .entry))) (now (args .entry)))) ceiling ⌝ }
 {
     let mut w: u64 = 1;
@@ -68,7 +68,7 @@ fn row_count(args: &[u16], counts: &[u64; 256]) -> u64
 
 // The sum of what is held for each entry of a list, kept to one above the limit.
 pub fn sum_of(list: &[u16], values: &[u64; 256]) -> u64
-    requires { ⌜ Within countLimit (now values) (now list) ⌝ }
+    requires { ⌜ ArgsWithin countLimit (now values) (now list) ⌝ }
     ensures { λ r. ⌜ r ≡ min (sum (map (held (now (values .entry))) (now (list .entry)))) ceiling ⌝ }
 {
     let mut total: u64 = 0;
@@ -82,7 +82,7 @@ pub fn sum_of(list: &[u16], values: &[u64; 256]) -> u64
 
 // How many entries the longest tree of a row with these arguments has, kept to one above the limit of lengths.
 fn row_length(args: &[u16], longest: &[u64; 256]) -> u64
-    requires { ⌜ (length (now args) ≤ 16) × Within 4096 (now longest) (now args) ⌝ }
+    requires { ⌜ (length (now args) ≤ 16) × ArgsWithin 4096 (now longest) (now args) ⌝ }
     ensures { λ r. ⌜ r ≡ min (2 + sum (map (held (now (longest .entry))) (now (args .entry)))) lengthCeiling ⌝ }
 {
     let mut n: u64 = 2;
@@ -99,7 +99,7 @@ fn row_length(args: &[u16], longest: &[u64; 256]) -> u64
 
 // The longer of what was found and the longest tree of a row that counts w, kept to one above the limit of lengths.
 fn longer_of(long: u64, w: u64, args: &[u16], longest: &[u64; 256]) -> u64
-    requires { ⌜ (long ≤ lengthCeiling) × (length (now args) ≤ 16) × Within 4096 (now longest) (now args) ⌝ }
+    requires { ⌜ (long ≤ lengthCeiling) × (length (now args) ≤ 16) × ArgsWithin 4096 (now longest) (now args) ⌝ }
     ensures { λ r. ⌜ r ≡ min (longer long w (now (longest .entry)) (now (args .entry))) lengthCeiling ⌝ }
 {
     if w == 0 {
@@ -177,7 +177,7 @@ pub fn count_states(
     longest: &mut [u64; 256],
     sums: &mut [u64; 1024],
 ) -> StateFault
-    requires { ⌜ Ready states (now rows) (now offsets) (now first) (now after) (now counts) (now longest) (now sums) ⌝ }
+    requires { ⌜ CountReady states (now rows) (now offsets) (now first) (now after) (now counts) (now longest) (now sums) ⌝ }
     ensures { λ r. ⌜ CountedStates states (now (rows .entry)) (now (counts .exit)) (now (longest .exit)) (now (sums .exit)) r ⌝ }
 {
     let mut q: usize = 0;

@@ -28,6 +28,6 @@ pub record Index (rows : List ℕ) (n : ℕ) (heads next : List ℕ) : Type 0 wh
   pub distinct : firstWith (repeated rows) n ≡ Nothing
 
 -- the answer, and where it is that no row repeats an earlier one, the index of all rows
-pub record Answered (rows : List ℕ) (m : ℕ) (heads next : List ℕ) (r : Found) : Type 0 where
+pub record IndexAnswer (rows : List ℕ) (m : ℕ) (heads next : List ℕ) (r : Found) : Type 0 where
   pub answer : r ≡ firstWith (repeated rows) m
   pub index : r ≡ Nothing → Index rows m heads next

@@ -8,7 +8,7 @@ ghost use Prim.Native.Nat.{_<_};
 ghost use Rattle.model.specs.Table.{sameList, rowIs, rowAt, Whole};
 ghost use Rattle.chains.specs.Chains.{Clear};
 ghost use Rattle.rows.specs.Laid.{Laid};
-ghost use Rattle.index.specs.Index.{rowFound, hashOf, Index, Answered};
+ghost use Rattle.index.specs.Index.{rowFound, hashOf, Index, IndexAnswer};
 
 // Whether two argument lists are equal.
 fn same(a: &[u16], b: &[u16]) -> bool
@@ -114,7 +114,7 @@ pub fn first_duplicate(
 ) -> Found
     requires { ⌜ Laid (now rows) (now offsets) m ⌝ }
     requires { ⌜ Clear 2048 1024 (now heads) (now next) ⌝ }
-    ensures { λ r. ⌜ Answered (now (rows .entry)) m (now (heads .exit)) (now (next .exit)) r ⌝ }
+    ensures { λ r. ⌜ IndexAnswer (now (rows .entry)) m (now (heads .exit)) (now (next .exit)) r ⌝ }
 {
     let mut n: usize = 0;
     while n < m {

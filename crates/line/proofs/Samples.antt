@@ -10,11 +10,11 @@ use Rattle.model.specs.Reach.{rowWith, statesOf, entryOf}
 use Rattle.model.specs.Count.{sum, product, weight, stateCounts, grow, count, total, largest, rowLongest, stateLongest, longest}
 use Rattle.model.specs.Value.{horner, earlierRows, rowValue, valuesOf, numberOf, findBy, childrenFrom, treeIn, treeOf}
 use Rattle.model.specs.Check.{allBelow, cut, tooMany, outOfRange, notBelow, repeated, rowGround, acceptingGround, stateGround, checkWithin, checkOutcome}
-use Rattle.model.specs.Names.{isLetter, isNameByte, allNameBytes, isName, sameName, linesOf, nameOf, lineWith, symbolOf, isListed, lineGround, namesOr}
-use Rattle.model.specs.Entries.{openAfter, entryGround, endsTooSoon, formOr, treeOr, levelsOf, treeFrom}
-use Rattle.model.specs.Term.{textOfTerms, textOf, step, scan, termOr, run, nameBegins, before, seenFrom, termFrom}
+use Rattle.model.specs.Names.{isLetter, isNameByte, allNameBytes, isName, sameName, linesOf, nameOf, lineWith, symbolOf, isListed, lineGround, namesThen}
+use Rattle.model.specs.Entries.{openAfter, entryGround, endsTooSoon, formThen, treeThen, levelsOf, treeFrom}
+use Rattle.model.specs.Term.{textOfTerms, textOf, step, scan, termThen, run, nameBegins, before, seenFrom, termFrom}
 use Rattle.model.specs.TermOperations.{symbolsOf, namesOf, entriesOf, bytesOf, nameGround, readTermOutcome, symbolGround, writeTermOutcome}
-use Rattle.model.specs.Number.{reachesNone, stuckOr, acceptedOr, numberTree, numberOutcome}
+use Rattle.model.specs.Number.{reachesNone, stuckThen, acceptedThen, numberTree, numberOutcome}
 use Rattle.model.specs.Write.{treeEntries, writeTree, entriesFor, writeOutcome}
 use Rattle.model.specs.Text.{ascii}
 use Rattle.model.specs.Paper.{paperStates, paperRowList, oneList, paperRows, paperAccepting, paperNames}
@@ -78,5 +78,5 @@ edges =
     ∷ []
 
 edge-samples : map given edges ≡ map due edges
-unfolding refuseOn firstFaulty anyBelow rowStart howMany howManyRows firstRows rowsOf sameList rowIs serialForest serial rowWith statesOf entryOf sum product weight stateCounts grow count total largest rowLongest stateLongest longest horner earlierRows rowValue valuesOf numberOf findBy childrenFrom treeIn treeOf allBelow cut tooMany outOfRange notBelow repeated rowGround acceptingGround stateGround checkWithin checkOutcome isLetter isNameByte allNameBytes isName sameName linesOf nameOf lineWith symbolOf isListed lineGround namesOr openAfter entryGround endsTooSoon formOr treeOr levelsOf treeFrom textOfTerms textOf step scan termOr run nameBegins before seenFrom termFrom symbolsOf namesOf entriesOf bytesOf nameGround readTermOutcome symbolGround writeTermOutcome reachesNone stuckOr acceptedOr numberTree numberOutcome treeEntries writeTree entriesFor writeOutcome ascii paperRowList oneList paperRows paperNames allDigits isNumber numberAfter numberIn decimalBy decimal answerNumber answerTerm answerTo answersTo outputFor many
+unfolding refuseOn firstFaulty anyBelow rowStart howMany howManyRows firstRows rowsOf sameList rowIs serialForest serial rowWith statesOf entryOf sum product weight stateCounts grow count total largest rowLongest stateLongest longest horner earlierRows rowValue valuesOf numberOf findBy childrenFrom treeIn treeOf allBelow cut tooMany outOfRange notBelow repeated rowGround acceptingGround stateGround checkWithin checkOutcome isLetter isNameByte allNameBytes isName sameName linesOf nameOf lineWith symbolOf isListed lineGround namesThen openAfter entryGround endsTooSoon formThen treeThen levelsOf treeFrom textOfTerms textOf step scan termThen run nameBegins before seenFrom termFrom symbolsOf namesOf entriesOf bytesOf nameGround readTermOutcome symbolGround writeTermOutcome reachesNone stuckThen acceptedThen numberTree numberOutcome treeEntries writeTree entriesFor writeOutcome ascii paperRowList oneList paperRows paperNames allDigits isNumber numberAfter numberIn decimalBy decimal answerNumber answerTerm answerTo answersTo outputFor many
 edge-samples = refl

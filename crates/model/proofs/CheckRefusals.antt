@@ -12,13 +12,13 @@ use lib.Dec.{eqb, ltb, leb}
 use borrow.Author.Tests.{ltb-true, ltb-false, leb-true, eqb-true, not-true, lt-ltb, le-ltb, le-leb, eq-eqb}
 use Rattle.model.specs.Answers.{Outcome, result, refused}
 use Rattle.model.specs.Choice.{if_then_else_, firstFaulty, anyBelow}
-use Rattle.model.specs.Table.{Row, Table, countAt, rowStart, rowNumbered, howManyRows, rowIs, howManyEntries, stateAt, tableOf}
+use Rattle.model.specs.Table.{Row, Table, argCountAt, rowStart, rowNumbered, howManyRows, rowIs, howManyEntries, stateAt, tableOf}
 use Rattle.model.specs.Count.{count, total, longest}
 use Rattle.model.specs.Tree.{Tree}
 use Rattle.model.specs.Reach.{Reaches, Accepted}
 use Rattle.model.specs.Check.{allBelow, isState, cut, tooMany, outOfRange, notBelow, repeated, rowGround, acceptingGround, stateGround, checkWithin, checkOutcome, countLimit}
 use Rattle.model.specs.Limits.{ReachedBy, WithinLimits, BeyondLimits, nine, ten}
-use Rattle.model.specs.CheckRefusals.{Begins, RowCut, RowTooMany, SomeArgument, RowOutOfRange, RowNotBelow, RowRepeated, RowRefused, row2, row3, row4, row5, row6, FaultlessRow, FaultlessRows, EntryFaulty, FaultlessEntries, CheckRefused, check1, check2to6, check7, check9to10, check11, CheckRefuses, CheckGives}
+use Rattle.model.specs.CheckRefusals.{RowBegins, RowCut, RowTooMany, SomeArgument, RowOutOfRange, RowNotBelow, RowRepeated, RowRefused, row2, row3, row4, row5, row6, FaultlessRow, FaultlessRows, EntryFaulty, FaultlessEntries, CheckRefused, check1, check2to6, check7, check9to10, check11, CheckRefuses, CheckGives}
 use Rattle.model.proofs.Choice.{if-no, if-yes, if-zero, refused-number, refused-place, or-true, or-left, or-right, not-both, is-false, no-fault, fault-refused, any-true, any-some, if-refused, result-only, Decided, clear, faulty, decided}
 use Rattle.model.proofs.Good.{Good}
 use Rattle.model.proofs.Exactly.{exactly-once}
@@ -86,10 +86,10 @@ any-tells n p t = (λ e. let s = any-some n p e in (s .0, s .1, t (s .0) .0 (s .
 
 -- ---- one row
 
-row-begins : (rows : List ℕ) (i : ℕ) → i < howManyRows rows → Begins rows i
+row-begins : (rows : List ℕ) (i : ℕ) → i < howManyRows rows → RowBegins rows i
 row-begins rows i l = rowCount rows .inside i l
 
-begins-row : (rows : List ℕ) (i : ℕ) → Begins rows i → i < howManyRows rows
+begins-row : (rows : List ℕ) (i : ℕ) → RowBegins rows i → i < howManyRows rows
 begins-row rows i b = go (decLe (howManyRows rows) i)
   where
     go : Dec (howManyRows rows ≤ i) → i < howManyRows rows
@@ -108,7 +108,7 @@ module _ (states : ℕ) (rows : List ℕ) (i : ℕ) where
   test2 = cut rows start
 
   abbrev test3 : Bool
-  test3 = tooMany i (countAt rows start)
+  test3 = tooMany i (argCountAt rows start)
 
   abbrev test4 : Bool
   test4 = outOfRange states r
@@ -127,11 +127,11 @@ module _ (states : ℕ) (rows : List ℕ) (i : ℕ) where
       few = ltb (length rows - start) 3
 
       fewer : Bool
-      fewer = ltb (length rows - start - 3) (countAt rows start)
+      fewer = ltb (length rows - start - 3) (argCountAt rows start)
 
       there : (few ≡ true) ⊎ (fewer ≡ true) → RowCut rows i
       there (inl e) = inl (omega (arith, ltb-true (length rows - start) 3 e))
-      there (inr e) = inr (omega (arith, ltb-true (length rows - start - 3) (countAt rows start) e))
+      there (inr e) = inr (omega (arith, ltb-true (length rows - start - 3) (argCountAt rows start) e))
 
       none : length rows < start + 3 → (few || fewer) ≡ true
       none l = or-left few fewer (lt-ltb (length rows - start) 3 (omega arith))
@@ -141,12 +141,12 @@ module _ (states : ℕ) (rows : List ℕ) (i : ℕ) where
       back (inr l) = go (decLe (start + 3) (length rows))
         where
           go : Dec (start + 3 ≤ length rows) → (few || fewer) ≡ true
-          go (yes m) = or-right few fewer (lt-ltb (length rows - start - 3) (countAt rows start) (omega arith))
+          go (yes m) = or-right few fewer (lt-ltb (length rows - start - 3) (argCountAt rows start) (omega arith))
           go (no m) = none (lt-of-not-le m)
 
   tells3 : Tells test3 (RowTooMany rows i)
   unfolding tooMany
-  tells3 = or-tells (leb 1024 i) (ltb 16 (countAt rows start)) (le-tells 1024 i) (lt-tells 16 (countAt rows start))
+  tells3 = or-tells (leb 1024 i) (ltb 16 (argCountAt rows start)) (le-tells 1024 i) (lt-tells 16 (argCountAt rows start))
 
   tells4 : Tells test4 (RowOutOfRange states r)
   unfolding outOfRange

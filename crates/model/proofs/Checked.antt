@@ -12,7 +12,7 @@ use lib.Dec.{eqb, ltb, leb}
 use borrow.Author.Tests.{ltb-true, ltb-false, leb-false, eqb-false, le-ltb, not-false}
 use Rattle.model.specs.Answers.{result, refused}
 use Rattle.model.specs.Choice.{anyBelow}
-use Rattle.model.specs.Table.{Row, Table, noRow, pack, countAt, rowStart, rowNumbered, howManyRows, rowsOf, rowIs, howManyEntries, stateAt, acceptingStates, tableOf, Whole}
+use Rattle.model.specs.Table.{Row, Table, noRow, pack, argCountAt, rowStart, rowNumbered, howManyRows, rowsOf, rowIs, howManyEntries, stateAt, acceptingStates, tableOf, Whole}
 use Rattle.model.specs.Count.{count, total, longest}
 use Rattle.model.specs.Check.{allBelow, isState, cut, tooMany, outOfRange, notBelow, repeated, rowGround, acceptingGround, stateGround, checkWithin, countLimit, checkOutcome, Passes}
 use Rattle.model.proofs.Choice.{if-no, if-result, if-zero, or-false, and-true, not-both, no-fault, no-fault-back, any-false}
@@ -84,8 +84,8 @@ allBelow-true n (x ∷ xs) h =
 pub not-cut : (rows : List ℕ) (s : ℕ) → cut rows s ≡ false → Whole rows s
 unfolding cut
 not-cut rows s e =
-    let p = or-false (ltb (length rows - s) 3) (ltb (length rows - s - 3) (countAt rows s)) e in
-    omega (arith, ltb-false (length rows - s) 3 (p .0), ltb-false (length rows - s - 3) (countAt rows s) (p .1))
+    let p = or-false (ltb (length rows - s) 3) (ltb (length rows - s - 3) (argCountAt rows s)) e in
+    omega (arith, ltb-false (length rows - s) 3 (p .0), ltb-false (length rows - s - 3) (argCountAt rows s) (p .1))
 
 pub not-tooMany : (i n : ℕ) → tooMany i n ≡ false → (i < 1024) × (n ≤ 16)
 unfolding tooMany
@@ -127,7 +127,7 @@ not-repeated rows i e j l s x =
 pub record GoodRow (states : ℕ) (rows : List ℕ) (i : ℕ) : Type 0 where
   pub whole : Whole rows (rowStart rows i)
   pub number : i < 1024
-  pub few-args : countAt rows (rowStart rows i) ≤ 16
+  pub few-args : argCountAt rows (rowStart rows i) ≤ 16
   pub in-range : InRange states (rowNumbered rows i)
   pub ordered : AllBelow (rowNumbered rows i .target) (rowNumbered rows i .args)
   pub fresh : (j : ℕ) → j < i → rowNumbered rows j .symbol ≡ rowNumbered rows i .symbol → rowNumbered rows j .args ≡ rowNumbered rows i .args → ⊥
@@ -136,11 +136,11 @@ pub row-good : (states : ℕ) (rows : List ℕ) (i : ℕ) → rowGround states r
 unfolding rowGround
 row-good states rows i e =
     let a = if-zero (cut rows (rowStart rows i)) 1 _ e in
-    let b = if-zero (tooMany i (countAt rows (rowStart rows i))) 2 _ (a .1) in
+    let b = if-zero (tooMany i (argCountAt rows (rowStart rows i))) 2 _ (a .1) in
     let c = if-zero (outOfRange states (rowNumbered rows i)) 3 _ (b .1) in
     let d = if-zero (notBelow (rowNumbered rows i)) 4 _ (c .1) in
     let f = if-zero (repeated rows i) 5 _ (d .1) in
-    let m = not-tooMany i (countAt rows (rowStart rows i)) (b .0) in
+    let m = not-tooMany i (argCountAt rows (rowStart rows i)) (b .0) in
     record {
       whole = not-cut rows (rowStart rows i) (a .0);
       number = m .0;

@@ -18,8 +18,8 @@ use Rattle.model.specs.Value.{numberOf, treeOf}
 use Rattle.model.specs.Order.{Exactly, ComeBefore}
 use Rattle.model.specs.Check.{checkOutcome, countLimit, Passes}
 use Rattle.model.specs.Entries.{treeFrom}
-use Rattle.model.specs.Place.{NotAccepted}
-use Rattle.model.specs.Number.{checkedThen, acceptedOr, numberTree, numberOutcome}
+use Rattle.model.specs.Place.{UnacceptedAt}
+use Rattle.model.specs.Number.{checkedThen, acceptedThen, numberTree, numberOutcome}
 use Rattle.model.specs.Write.{treeEntries, writeTree, writeTreeList, entriesFor, writeOutcome, writeList}
 use Rattle.model.specs.Demand3.{HasTree, Pairing, AcceptsList, ListHasNumber, Refusing, WritesEntries, PairsOff, RefusesFirst}
 use Rattle.model.proofs.Choice.{if-result}
@@ -29,7 +29,7 @@ use Rattle.model.proofs.Counting.{count-counts, total-is}
 use Rattle.model.proofs.Reaching.{row-symbol}
 use Rattle.model.proofs.Longest.{forest-most}
 use Rattle.model.proofs.Serial.{serial-same}
-use Rattle.model.proofs.Entries.{tree-of, tree-from, tree-serial, tree-or-taken, tree-or-back}
+use Rattle.model.proofs.Entries.{tree-of, tree-from, tree-serial, tree-then-taken, tree-then-back}
 use Rattle.model.proofs.Stuck.{accepted-taken, accepted-result, stuck-place}
 use Rattle.model.proofs.Pairing.{number-below, number-same, tree-numbers, tree-of-number, all-counted, before-counted}
 
@@ -92,15 +92,15 @@ module _ (states : ℕ) (rows accepting : List ℕ) (n : ℕ) (passes : Passes s
   unfolding numberOutcome numberTree
   number-answer t a =
       checked-then (checkOutcome states rows accepting) n _ passes
-      ∙ tree-or-taken (serial t) (accepted-well passing-sound a) (accepted-short passing-good passing-within a) _
-      ∙ ap (λ (u : Tree). acceptedOr T u (result (numberOf T (count T) u))) (tree-of t (reach-symbols passing-sound (a .reaches)))
+      ∙ tree-then-taken (serial t) (accepted-well passing-sound a) (accepted-short passing-good passing-within a) _
+      ∙ ap (λ (u : Tree). acceptedThen T u (result (numberOf T (count T) u))) (tree-of t (reach-symbols passing-sound (a .reaches)))
       ∙ accepted-taken T passing-sound a _
 
   -- only accepted trees have numbers
   pub answer-number : (entries : List ℕ) (m : ℕ) → numberOutcome states rows accepting entries ≡ result m → ListHasNumber (tableOf states rows accepting) entries m
   unfolding numberOutcome numberTree
   answer-number entries m e =
-      let a = tree-or-back entries m _ (sym (checked-then (checkOutcome states rows accepting) n _ passes) ∙ e) in
+      let a = tree-then-back entries m _ (sym (checked-then (checkOutcome states rows accepting) n _ passes) ∙ e) in
       let b = accepted-result T passing-sound (treeFrom entries) _ m (a .2) in
       record { accepts = record { tree = treeFrom entries; written = tree-serial entries (a .0); accepted = b .0 }; numbers = b .1 }
 
@@ -202,12 +202,12 @@ module _ (states : ℕ) (rows accepting : List ℕ) (n : ℕ) (passes : Passes s
 
   -- a well-formed list that is refused is 14, at the place that document 01 says
   pub number-refused : (entries : List ℕ) (w : WellFormed entries) → length entries ≤ 4096 → (number place : ℕ)
-      → numberOutcome states rows accepting entries ≡ refused number place → (number ≡ 14) × NotAccepted (tableOf states rows accepting) (w .tree) place
+      → numberOutcome states rows accepting entries ≡ refused number place → (number ≡ 14) × UnacceptedAt (tableOf states rows accepting) (w .tree) place
   unfolding numberOutcome numberTree
   number-refused entries w l number place e =
       stuck-place T passing-sound (w .tree) (w .symbols) (numberOf T (count T) (w .tree)) number place
-      (sym (ap (λ (u : Tree). acceptedOr T u (result (numberOf T (count T) u))) (tree-from entries w))
-      ∙ sym (tree-or-taken entries w l _)
+      (sym (ap (λ (u : Tree). acceptedThen T u (result (numberOf T (count T) u))) (tree-from entries w))
+      ∙ sym (tree-then-taken entries w l _)
       ∙ sym (checked-then (checkOutcome states rows accepting) n _ passes)
       ∙ e)
 

@@ -14,7 +14,7 @@ use borrow.Author.Tests.{ltb-true, ltb-false, lt-ltb, le-ltb, eqb-true, eqb-fals
 use Rattle.model.specs.Answers.{Outcome, result, refused}
 use Rattle.model.specs.Choice.{if_then_else_, firstFaulty}
 use Rattle.model.specs.Tree.{Forest, Tree, empty, node, only, serialForest, serial, SymbolsInRange, WellFormed}
-use Rattle.model.specs.Entries.{openAfter, openAt, entryGround, endsTooSoon, formOr, treeOr, levelsOf, firstTree, treeFrom}
+use Rattle.model.specs.Entries.{openAfter, openAt, entryGround, endsTooSoon, formThen, treeThen, levelsOf, firstTree, treeFrom}
 use Rattle.model.specs.Place.{CanGoOn, StopsAt}
 use Rattle.model.proofs.Choice.{if-no, if-result, refused-number, refused-place, if-zero, or-false, or-none, not-both, no-fault, no-fault-back}
 use Rattle.model.proofs.Choice.{Decided, clear, faulty, decided}
@@ -273,15 +273,15 @@ abbrev shortOr : List ℕ → Outcome → Outcome
 shortOr entries o = if endsTooSoon entries then refused 13 (length entries) else o
 
 -- a list without a fault of form is taken
-pub form-taken : (entries : List ℕ) → Formed entries → (o : Outcome) → formOr entries o ≡ o
-unfolding formOr
+pub form-taken : (entries : List ℕ) → Formed entries → (o : Outcome) → formThen entries o ≡ o
+unfolding formThen
 form-taken entries f o =
     no-fault (length entries) (entryGround entries) (shortOr entries o) (f .sound)
     ∙ if-no (endsTooSoon entries) (refused 13 (length entries)) o (f .enough)
 
 -- a list that is taken has no fault of form
-pub form-back : (entries : List ℕ) (t : ℕ) (o : Outcome) → formOr entries o ≡ result t → Formed entries × (o ≡ result t)
-unfolding formOr
+pub form-back : (entries : List ℕ) (t : ℕ) (o : Outcome) → formThen entries o ≡ result t → Formed entries × (o ≡ result t)
+unfolding formThen
 form-back entries t o e =
     let a = no-fault-back (length entries) t (entryGround entries) (shortOr entries o) e in
     let b = if-result (endsTooSoon entries) 13 (length entries) t o (a .1) in
@@ -324,9 +324,9 @@ stops-short entries h e =
 
 -- a refusal is 13, at the first entry with which no tree can go on, or at the list's length if it ends too soon; or the list is a tree, and
 -- what follows is the refusal
-pub form-place : (entries : List ℕ) (k p : ℕ) (o : Outcome) → formOr entries o ≡ refused k p
+pub form-place : (entries : List ℕ) (k p : ℕ) (o : Outcome) → formThen entries o ≡ refused k p
     → ((k ≡ 13) × StopsAt WellFormed entries p) ⊎ (WellFormed entries × (o ≡ refused k p))
-unfolding formOr
+unfolding formThen
 form-place entries k p o e = go (decided (length entries) (entryGround entries) (shortOr entries o))
   where
     ends : (b : Bool) → endsTooSoon entries ≡ b → ((i : ℕ) → i < length entries → entryGround entries i ≡ 0)
@@ -425,17 +425,17 @@ open-bound entries w i l =
 -- ---- refusals 12 and 13
 
 -- a well-formed tree of at most 4,096 entries is taken
-pub tree-or-taken : (entries : List ℕ) → WellFormed entries → length entries ≤ 4096 → (o : Outcome) → treeOr entries o ≡ o
-unfolding treeOr
-tree-or-taken entries w l o =
-    if-no (ltb 4096 (length entries)) (refused 12 0) (formOr entries o) (le-ltb 4096 (length entries) l)
+pub tree-then-taken : (entries : List ℕ) → WellFormed entries → length entries ≤ 4096 → (o : Outcome) → treeThen entries o ≡ o
+unfolding treeThen
+tree-then-taken entries w l o =
+    if-no (ltb 4096 (length entries)) (refused 12 0) (formThen entries o) (le-ltb 4096 (length entries) l)
     ∙ form-taken entries (well-formed entries w) o
 
 -- a list that is taken is one
-pub tree-or-back : (entries : List ℕ) (t : ℕ) (o : Outcome) → treeOr entries o ≡ result t
+pub tree-then-back : (entries : List ℕ) (t : ℕ) (o : Outcome) → treeThen entries o ≡ result t
     → WellFormed entries × (length entries ≤ 4096) × (o ≡ result t)
-unfolding treeOr
-tree-or-back entries t o e =
-    let a = if-result (ltb 4096 (length entries)) 12 0 t (formOr entries o) e in
+unfolding treeThen
+tree-then-back entries t o e =
+    let a = if-result (ltb 4096 (length entries)) 12 0 t (formThen entries o) e in
     let b = form-back entries t o (a .1) in
     (formed-well entries (b .0), ltb-false 4096 (length entries) (a .0), b .1)

@@ -14,7 +14,7 @@ use Rattle.model.specs.TermOperations.{symbolsOf, namesOf, treeOfTerm, t
 use Rattle.model.specs.Inverse.{Writable, WriteTaken, Readable, ReadTaken, WrittenReads, ReadWrites, ReadLent, WriteLent, entriesEach, EntriesSentence}
 use Rattle.model.proofs.Choice.{if-no, if-result, no-fault, no-fault-back}
 use Rattle.model.proofs.Writing.{lent-all, lent-front, lent-told}
-use Rattle.model.proofs.Entries.{tree-from, tree-or-taken, tree-or-back}
+use Rattle.model.proofs.Entries.{tree-from, tree-then-taken, tree-then-back}
 use Rattle.model.proofs.Scan.{texts, terms-texts, name-from, applied-from, term-of, term-from, term-text, term-or-taken, term-or-back}
 use Rattle.model.proofs.Names.{Sound, names-list, list-sound, names-taken, names-back, symbol-of-name, name-of-symbol, name-is}
 use Rattle.model.proofs.Listed.{AllNamed, listed-names, names-listed, low-named, named-low, symbol-low, low-symbol, text-bound}
@@ -105,7 +105,7 @@ pub write-taken : (names tree : List ℕ) (room : ℕ) → Writable names tree �
 unfolding writeTermOutcome
 write-taken names tree room w l =
     names-taken names (list-sound names (w .list)) _
-    ∙ tree-or-taken tree (w .well) (w .few) _
+    ∙ tree-then-taken tree (w .well) (w .few) _
     ∙ no-fault (length tree) (symbolGround names tree) _ (λ i m. low-symbol names tree i (w .named i m))
     ∙ if-no (ltb room (length (bytesOf names tree))) _ _ (le-ltb room (length (bytesOf names tree)) l)
 
@@ -115,7 +115,7 @@ pub write-back : (names tree : List ℕ) (room n : ℕ) → writeTermOutcome nam
 unfolding writeTermOutcome
 write-back names tree room n e =
     let a = names-back names n _ e in
-    let b = tree-or-back tree n _ (a .1) in
+    let b = tree-then-back tree n _ (a .1) in
     let c = no-fault-back (length tree) n (symbolGround names tree) _ (b .2) in
     let d = if-result (ltb room (length (bytesOf names tree))) 24 (length (bytesOf names tree)) n _ (c .1) in
     let z : n ≡ length (bytesOf names tree) = result-is (d .1) in (

@@ -12,7 +12,7 @@ use lib.Dec.{eqb, leb}
 use borrow.Author.Tests.{eqb-true, ltb-true, lt-ltb, leb-false, lt-leb, eqb-false, ne-eqb, not-false}
 use Rattle.model.specs.Answers.{Outcome, result, refused}
 use Rattle.model.specs.Choice.{if_then_else_, anyBelow}
-use Rattle.model.specs.Names.{allNameBytes, isName, sameName, bytesOfNames, IsNamesList, Line, joined, linesOf, noLine, lineAt, howManyNames, nameOf, lineWith, symbolOf, isListed, lineGround, namesOr}
+use Rattle.model.specs.Names.{allNameBytes, isName, sameName, bytesOfNames, IsNamesList, Line, joined, linesOf, noLine, lineAt, howManyNames, nameOf, lineWith, symbolOf, isListed, lineGround, namesThen}
 use Rattle.model.proofs.Choice.{if-no, if-result, if-zero, or-false, not-both, no-fault, no-fault-back, any-false, any-none}
 use Rattle.model.proofs.Rows.{sameList-refl, sameList-true}
 use Rattle.model.proofs.Counting.{getD-map}
@@ -104,15 +104,15 @@ lines-sound names some line =
     }
 
 -- a sound list is taken
-pub names-taken : (names : List ℕ) → Sound names → (o : Outcome) → namesOr names o ≡ o
-unfolding namesOr
+pub names-taken : (names : List ℕ) → Sound names → (o : Outcome) → namesThen names o ≡ o
+unfolding namesThen
 names-taken names s o =
     if-no (eqb (length names) 0) (refused 17 0) _ (ne-eqb (length names) 0 (no-lines names (s .some)))
     ∙ no-fault (howManyNames names) (lineGround names) o (λ k l. line-clear names k (sound-line names s k l))
 
 -- a list that is taken is sound
-pub names-back : (names : List ℕ) (t : ℕ) (o : Outcome) → namesOr names o ≡ result t → Sound names × (o ≡ result t)
-unfolding namesOr
+pub names-back : (names : List ℕ) (t : ℕ) (o : Outcome) → namesThen names o ≡ result t → Sound names × (o ≡ result t)
+unfolding namesThen
 names-back names t o e =
     let p = if-result (eqb (length names) 0) 17 0 t _ e in
     let q = no-fault-back (howManyNames names) t (lineGround names) o (p .1) in
@@ -207,7 +207,7 @@ names-list names s =
     }
 
 -- 17 is refused exactly where it is no names list
-pub names-exactly : (names : List ℕ) → IsNamesList names ↔ ((o : Outcome) → namesOr names o ≡ o)
+pub names-exactly : (names : List ℕ) → IsNamesList names ↔ ((o : Outcome) → namesThen names o ≡ o)
 names-exactly names =
     (λ w. names-taken names (list-sound names w), λ h. names-list names (names-back names 0 (result 0) (h (result 0)) .0))
 

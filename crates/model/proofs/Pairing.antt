@@ -17,7 +17,7 @@ use Rattle.model.proofs.Counting.{getD-any, getD-map, sum-place}
 use Rattle.model.proofs.Exactly.{exactly}
 use Rattle.model.proofs.States.{state-reaches, entryOf-is, entryOf-first}
 use Rattle.model.proofs.Serial.{only-same}
-use Rattle.model.proofs.Values.{Three, lt, eq, gt, three, sum-step, Found, found, compare, value-below, value-rises, tree-valued}
+use Rattle.model.proofs.Values.{Three, lt, eq, gt, three, sum-step, FindsAt, found, compare, value-below, value-rises, tree-valued}
 
 -- ---- accepted trees and numbers, with any counts
 
@@ -112,7 +112,7 @@ module _ (T : Table) (sound : Sound T) where
       unfolding treeOf
       tree-numbers n l = go (findBy listedCounts n) (found listedCounts n l)
         where
-          go : (p : Picked) → Found listedCounts n p → Numbers T c n (treeIn (T .rows) c (T .states) (getD (T .accepting) (p .which) (T .states)) (p .rest))
+          go : (p : Picked) → FindsAt listedCounts n p → Numbers T c n (treeIn (T .rows) c (T .states) (getD (T .accepting) (p .which) (T .states)) (p .rest))
           go p f =
               let i : p .which < length (T .accepting) = rw (length-map (T .accepting) c) at (f .inside) in
               let q = sound .listed (p .which) i in

@@ -9,7 +9,7 @@ use lib.ListN.{length, getD}
 use lib.Dec.{eqb, ltb, leb}
 use borrow.Author.Tests.{lt-ltb, le-ltb, lt-leb, ne-eqb}
 use Rattle.model.specs.Answers.{result}
-use Rattle.model.specs.Table.{Row, Table, noRow, pack, countAt, rowStart, rowNumbered, howManyRows, rowsOf, rowIs, howManyEntries, stateAt, tableOf, Whole}
+use Rattle.model.specs.Table.{Row, Table, noRow, pack, argCountAt, rowStart, rowNumbered, howManyRows, rowsOf, rowIs, howManyEntries, stateAt, tableOf, Whole}
 use Rattle.model.specs.Count.{count, total, longest}
 use Rattle.model.specs.Check.{allBelow, cut, tooMany, outOfRange, notBelow, repeated, rowGround, acceptingGround, stateGround, checkWithin}
 use Rattle.model.proofs.Choice.{or-none, and-both, is-false, any-none}
@@ -27,8 +27,8 @@ allBelow-yes n (x ∷ xs) h = and-both (ltb x n) (allBelow n xs) (lt-ltb x n (be
 pub cut-no : (rows : List ℕ) (s : ℕ) → Whole rows s → cut rows s ≡ false
 unfolding cut
 cut-no rows s w =
-    or-none (ltb (length rows - s) 3) (ltb (length rows - s - 3) (countAt rows s))
-    (le-ltb (length rows - s) 3 (omega arith)) (le-ltb (length rows - s - 3) (countAt rows s) (omega arith))
+    or-none (ltb (length rows - s) 3) (ltb (length rows - s - 3) (argCountAt rows s))
+    (le-ltb (length rows - s) 3 (omega arith)) (le-ltb (length rows - s - 3) (argCountAt rows s) (omega arith))
 
 pub tooMany-no : (i n : ℕ) → i < 1024 → n ≤ 16 → tooMany i n ≡ false
 unfolding tooMany
@@ -61,7 +61,7 @@ unfolding rowGround
 row-ground states rows i g =
     rw (
       cut-no rows (rowStart rows i) (g .whole),
-      tooMany-no i (countAt rows (rowStart rows i)) (g .number) (g .few-args),
+      tooMany-no i (argCountAt rows (rowStart rows i)) (g .number) (g .few-args),
       outOfRange-no states (rowNumbered rows i) (g .in-range),
       notBelow-no (rowNumbered rows i) (g .ordered),
       repeated-no rows i (g .fresh),

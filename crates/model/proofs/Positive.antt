@@ -14,11 +14,11 @@ use Rattle.model.specs.Reach.{stateOf, entryOf}
 use Rattle.model.specs.Value.{numberOf}
 use Rattle.model.specs.Count.{count, total}
 use Rattle.model.specs.Check.{rowGround, acceptingGround, stateGround, checkWithin, checkOutcome, countLimit}
-use Rattle.model.specs.Names.{howManyNames, lineGround, namesOr}
-use Rattle.model.specs.Entries.{entryGround, endsTooSoon, formOr, treeOr, treeFrom}
-use Rattle.model.specs.Term.{Scan, passes, breaksAt, breakOr, scan, due, termOr}
+use Rattle.model.specs.Names.{howManyNames, lineGround, namesThen}
+use Rattle.model.specs.Entries.{entryGround, endsTooSoon, formThen, treeThen, treeFrom}
+use Rattle.model.specs.Term.{Scan, passes, breaksAt, breakThen, scan, due, termThen}
 use Rattle.model.specs.TermOperations.{entriesOf, bytesOf, nameGround, symbolGround, readTermOutcome, writeTermOutcome}
-use Rattle.model.specs.Number.{checkedThen, reachesNone, stuckOr, acceptedOr, numberTree, numberOutcome}
+use Rattle.model.specs.Number.{checkedThen, reachesNone, stuckThen, acceptedThen, numberTree, numberOutcome}
 use Rattle.model.specs.Write.{treeEntries, writeTree, writeOutcome}
 use Rattle.model.proofs.Choice.{Decided, clear, faulty, decided}
 
@@ -59,21 +59,21 @@ check-positive states rows accepting =
     (positive-if (ltb countLimit (total T)) 11 0 _ (omega arith) (positive-result (total T)))))))
 
 -- names lists, trees and terms, and what follows
-pub names-positive : (names : List ℕ) (o : Outcome) → Positive o → Positive (namesOr names o)
-unfolding namesOr
+pub names-positive : (names : List ℕ) (o : Outcome) → Positive o → Positive (namesThen names o)
+unfolding namesThen
 names-positive names o h = positive-if (eqb (length names) 0) 17 0 _ (omega arith) (positive-first (howManyNames names) (lineGround names) o h)
 
-pub tree-positive : (entries : List ℕ) (o : Outcome) → Positive o → Positive (treeOr entries o)
-unfolding treeOr formOr
+pub tree-positive : (entries : List ℕ) (o : Outcome) → Positive o → Positive (treeThen entries o)
+unfolding treeThen formThen
 tree-positive entries o h =
     positive-if (ltb 4096 (length entries)) 12 0 _ (omega arith)
     (positive-first (length entries) (entryGround entries) _ (positive-if (endsTooSoon entries) 13 (length entries) o (omega arith) h))
 
-term-positive : (text : List ℕ) (o : Outcome) → Positive o → Positive (termOr text o)
-unfolding termOr
+term-positive : (text : List ℕ) (o : Outcome) → Positive o → Positive (termThen text o)
+unfolding termThen
 term-positive text o h = go (scan (due 0) 0 text)
   where
-    go : (s : Scan) → Positive (breakOr s o)
+    go : (s : Scan) → Positive (breakThen s o)
     go passes = h
     go (breaksAt place) = positive-refused 19 place (omega arith)
 
@@ -101,15 +101,15 @@ then-positive : (o : Outcome) (f : ℕ → Outcome) → Positive o → ((total :
 then-positive (result total) f h g = g total
 then-positive (refused m q) f h g = h
 
-stuck-positive : (T : Table) (f : Forest) (place : ℕ) (o : Outcome) → Positive o → Positive (stuckOr T f place o)
-unfolding stuckOr
+stuck-positive : (T : Table) (f : Forest) (place : ℕ) (o : Outcome) → Positive o → Positive (stuckThen T f place o)
+unfolding stuckThen
 stuck-positive T empty place o h = h
 stuck-positive T (node s children right) place o h =
     let bar = suc place + length (serialForest children) in
     stuck-positive T children (suc place) _ (positive-if (reachesNone T s children) 14 bar _ (omega arith) (stuck-positive T right (suc bar) o h))
 
 pub number-positive : (states : ℕ) (rows accepting tree : List ℕ) → Positive (numberOutcome states rows accepting tree)
-unfolding numberOutcome numberTree acceptedOr
+unfolding numberOutcome numberTree acceptedThen
 number-positive states rows accepting tree =
     let T = tableOf states rows accepting in
     let t = treeFrom tree in

@@ -11,7 +11,7 @@ use lib.Seq.{getD-at, take-add, take-all, drop-cons, length-take-le, getD-append
 use lib.Dec.{eqb, ltb}
 use borrow.Author.Tests.{ltb-true, ltb-false, lt-ltb, le-ltb, eqb-true, eq-eqb}
 use Rattle.model.specs.Choice.{if_then_else_}
-use Rattle.model.specs.Table.{Row, noRow, pack, countAt, argsAt, rowAt, rowStart, rowNumbered, howMany, howManyRows, firstRows, rowsOf, sameList, rowIs, Whole}
+use Rattle.model.specs.Table.{Row, noRow, pack, argCountAt, argsAt, rowAt, rowStart, rowNumbered, howMany, howManyRows, firstRows, rowsOf, sameList, rowIs, Whole}
 use Rattle.model.proofs.Choice.{First, nowhere, first, first-of, and-true, and-both}
 
 -- ---- where rows begin
@@ -131,8 +131,8 @@ unfolding pack
 pack-append [] ss = refl
 pack-append (r ∷ rs) ss = rw (pack-append rs ss, append-assoc (r .args) (pack rs) (pack ss))
 
-pub args-length : (entries : List ℕ) (s : ℕ) → Whole entries s → length (argsAt entries s) ≡ countAt entries s
-args-length entries s w = length-take-le (countAt entries s) (drop (s + 3) entries) (simp length-drop (omega arith))
+pub args-length : (entries : List ℕ) (s : ℕ) → Whole entries s → length (argsAt entries s) ≡ argCountAt entries s
+args-length entries s w = length-take-le (argCountAt entries s) (drop (s + 3) entries) (simp length-drop (omega arith))
 
 -- the three entries at a row's front
 front : (entries : List ℕ) (s : ℕ) → s + 3 ≤ length entries → drop s entries ≡ getD entries s 0 ∷ getD entries (s + 1) 0 ∷ getD entries (s + 2) 0 ∷ drop (s + 3) entries
@@ -142,10 +142,10 @@ front entries s l =
     let c : suc (s + 2) ≡ s + 3 = omega arith in
     rw (drop-cons entries s 0 (omega arith), a, drop-cons entries (s + 1) 0 (omega arith), b, drop-cons entries (s + 2) 0 (omega arith), c)
 
-pub row-entries : (entries : List ℕ) (s : ℕ) → Whole entries s → pack (rowAt entries s ∷ []) ≡ take (3 + countAt entries s) (drop s entries)
+pub row-entries : (entries : List ℕ) (s : ℕ) → Whole entries s → pack (rowAt entries s ∷ []) ≡ take (3 + argCountAt entries s) (drop s entries)
 unfolding pack
 row-entries entries s w =
-    let n : 3 + countAt entries s ≡ suc (suc (suc (countAt entries s))) = omega arith in
+    let n : 3 + argCountAt entries s ≡ suc (suc (suc (argCountAt entries s))) = omega arith in
     rw (n, front entries s (omega arith), args-length entries s w, append-nil (argsAt entries s))
 
 pack-none : pack [] ≡ []
@@ -157,13 +157,13 @@ pub pack-first : (entries : List ℕ) (n : ℕ) → ((i : ℕ) → i < n → Who
 unfolding firstRows rowStart
 pack-first entries zero h = pack-none
 pack-first entries (suc n) h =
-    let k : rowStart entries n + 3 + countAt entries (rowStart entries n) ≡ rowStart entries n + (3 + countAt entries (rowStart entries n)) = omega arith in
+    let k : rowStart entries n + 3 + argCountAt entries (rowStart entries n) ≡ rowStart entries n + (3 + argCountAt entries (rowStart entries n)) = omega arith in
     rw (
       pack-append (firstRows entries n) (rowNumbered entries n ∷ []),
       pack-first entries n (λ i l. h i (omega arith)),
       row-entries entries (rowStart entries n) (h n (omega arith)),
       k,
-      take-add (rowStart entries n) (3 + countAt entries (rowStart entries n)) entries,
+      take-add (rowStart entries n) (3 + argCountAt entries (rowStart entries n)) entries,
     )
 
 -- where every row is whole, the rows written out are the list
@@ -181,7 +181,7 @@ rowAt-behind entries p s q xs rest e =
     let row = s ∷ q ∷ length xs ∷ (xs ++ rest) in
     rw (e, getD-append-seam p s (q ∷ length xs ∷ (xs ++ rest)) 0, getD-append-add p row 1 0, getD-append-add p row 2 0, drop-append-add p row 3, take-append-seam xs rest)
 
-pub countAt-behind : (entries p : List ℕ) (s q : ℕ) (xs rest : List ℕ) → entries ≡ p ++ (s ∷ q ∷ length xs ∷ (xs ++ rest)) → countAt entries (length p) ≡ length xs
+pub countAt-behind : (entries p : List ℕ) (s q : ℕ) (xs rest : List ℕ) → entries ≡ p ++ (s ∷ q ∷ length xs ∷ (xs ++ rest)) → argCountAt entries (length p) ≡ length xs
 countAt-behind entries p s q xs rest e = rw (e, getD-append-add p (s ∷ q ∷ length xs ∷ (xs ++ rest)) 2 0)
 
 -- rows written out, cut before row i
@@ -200,7 +200,7 @@ pub rowStart-pack : (rs : List Row) (i : ℕ) → i ≤ length rs → rowStart (
 unfolding rowStart
 rowStart-pack rs zero l = ap length (sym pack-none)
 rowStart-pack rs (suc i) l =
-    let n : countAt (pack rs) (length (pack (take i rs))) ≡ length (getD rs i noRow .args) =
+    let n : argCountAt (pack rs) (length (pack (take i rs))) ≡ length (getD rs i noRow .args) =
     countAt-behind (pack rs) (pack (take i rs)) _ _ (getD rs i noRow .args) (pack (drop (suc i) rs)) (pack-cut rs i l) in
     rw (rowStart-pack rs i (omega arith), n) (sym (pack-longer rs i l))
 

@@ -1,4 +1,4 @@
--- Reading a text: the scan accepts just the terms, its place is document 01's, and the term is read back from its text.
+-- ScanState a text: the scan accepts just the terms, its place is document 01's, and the term is read back from its text.
 use Prim.Native.Nat.{ℕ, zero, suc, _+_, _≤_, _<_}
 use mathlib.Core.Path.{_≡_, refl, ap, sym, _∙_}
 use mathlib.Core.Bool.{Bool, true, false}
@@ -12,7 +12,7 @@ use borrow.Author.Tests.{eqb-true, ltb-true, lt-ltb}
 use Rattle.model.specs.Answers.{Outcome, result}
 use Rattle.model.specs.Choice.{if_then_else_}
 use Rattle.model.specs.Names.{isLetter, isNameByte, allNameBytes, isName}
-use Rattle.model.specs.Term.{Terms, none, term, Term, alone, inBrackets, afterComma, textOfTerms, textOf, AllNames, IsTerm, Reading, due, inName, closed, Step, goesOn, stops, afterTerm, step, mayEnd, Scan, passes, breaksAt, onward, scan, breakOr, termOr, Seen, before, seenFrom, seenTerm, termFrom}
+use Rattle.model.specs.Term.{Terms, none, term, Term, alone, inBrackets, afterComma, textOfTerms, textOf, AllNames, IsTerm, ScanState, due, inName, closed, ScanStep, goesOn, stops, afterTerm, step, mayEnd, Scan, passes, breaksAt, onward, scan, breakThen, termThen, Seen, before, seenFrom, seenTerm, termFrom}
 use Rattle.model.specs.Place.{StopsAt}
 use Rattle.model.specs.Inverse.{commas, Applied, TermSentence}
 use Rattle.model.proofs.Choice.{and-both}
@@ -48,7 +48,7 @@ text-of t = append-nil (t .name ++ bracketed (t .inner))
 
 -- ---- a term's text is whole
 
-abbrev Fine : Reading → List ℕ → Type 0
+abbrev Fine : ScanState → List ℕ → Type 0
 Fine r xs = (p : ℕ) → scan r p xs ≡ passes
 
 -- what may follow a term: nothing, `)` or `,`
@@ -172,13 +172,13 @@ record Due (d : ℕ) (xs : List ℕ) : Type 0 where
   names : AllNames under × NamesUp levels
   is : xs ≡ own ++ (bracketed under ++ up levels)
 
-abbrev Left : Reading → List ℕ → Type 0
+abbrev Left : ScanState → List ℕ → Type 0
 Left (due d) xs = Due d xs
 Left (inName d j) xs = Named d j xs
 Left (closed d) xs = Closed d xs
 
 abbrev Back : List ℕ → Type 0
-Back xs = (r : Reading) (p : ℕ) → scan r p xs ≡ passes → Left r xs
+Back xs = (r : ScanState) (p : ℕ) → scan r p xs ≡ passes → Left r xs
 
 -- one byte back
 closed-comma : (d : ℕ) (xs : List ℕ) → Due (suc d) xs → Closed (suc d) (44 ∷ xs)
@@ -253,7 +253,7 @@ term-back (suc d) b p xs ih f = by (eqb b 44) (eqb b 41) (eqb-true b 44) (eqb-tr
     by false true h k f = rw (k refl) (closed-close d xs (ih (closed d) (suc p) f))
     by false false h k f = let z : _≡_ {A = ℕ} 0 1 = cc in absurd (omega arith)
 
-step-back : (r : Reading) (b p : ℕ) (xs : List ℕ) → Back xs → onward (λ next. scan next (suc p) xs) (step r b) p ≡ passes → Left r (b ∷ xs)
+step-back : (r : ScanState) (b p : ℕ) (xs : List ℕ) → Back xs → onward (λ next. scan next (suc p) xs) (step r b) p ≡ passes → Left r (b ∷ xs)
 unfolding step
 step-back (due d) b p xs ih f = by (isLetter b) refl f
   where
@@ -276,7 +276,7 @@ end-closed : (d p : ℕ) → (if eqb d 0 then passes else breaksAt p) ≡ passes
 end-closed zero p e = record { levels = top; names = tt; is = refl }
 end-closed (suc d) p e = let f = eqb·suc-zero d in let z : _≡_ {A = ℕ} 0 1 = cc in absurd (omega arith)
 
-end-back : (r : Reading) (p : ℕ) → (if mayEnd r then passes else breaksAt p) ≡ passes → Left r []
+end-back : (r : ScanState) (p : ℕ) → (if mayEnd r then passes else breaksAt p) ≡ passes → Left r []
 end-back (due d) p e = let z : _≡_ {A = ℕ} 0 1 = cc in absurd (omega arith)
 end-back (inName d j) p e = name-closed d j [] (end-closed d p e)
 end-back (closed d) p e = end-closed d p e
@@ -306,7 +306,7 @@ closing : ℕ → List ℕ
 closing zero = []
 closing (suc d) = 41 ∷ closing d
 
-ending : Reading → List ℕ
+ending : ScanState → List ℕ
 ending (due d) = 97 ∷ closing d
 ending (inName d j) = closing d
 ending (closed d) = closing d
@@ -324,21 +324,21 @@ closing-stop (suc d) = close
 closing-name : (d j : ℕ) → Fine (inName d j) (closing d)
 closing-name d j = name-as-closed d j (closing d) (closing-stop d) (closing-fine d)
 
-ending-fine : (r : Reading) → Fine r (ending r)
+ending-fine : (r : ScanState) → Fine r (ending r)
 unfolding ending isLetter
 ending-fine (due d) p = due-on d 97 p (closing d) refl ∙ closing-name d 1 (suc p)
 ending-fine (inName d j) p = closing-name d j p
 ending-fine (closed d) p = closing-fine d p
 
-scan-on : (r s : Reading) (b p : ℕ) (bs : List ℕ) → step r b ≡ goesOn s → scan r p (b ∷ bs) ≡ scan s (suc p) bs
+scan-on : (r s : ScanState) (b p : ℕ) (bs : List ℕ) → step r b ≡ goesOn s → scan r p (b ∷ bs) ≡ scan s (suc p) bs
 unfolding scan
 scan-on r s b p bs e = rw e
 
-scan-stop : (r : Reading) (b p : ℕ) (bs : List ℕ) → step r b ≡ stops → scan r p (b ∷ bs) ≡ breaksAt p
+scan-stop : (r : ScanState) (b p : ℕ) (bs : List ℕ) → step r b ≡ stops → scan r p (b ∷ bs) ≡ breaksAt p
 unfolding scan
 scan-stop r b p bs e = rw e
 
-record Halts (r : Reading) (p q : ℕ) (xs : List ℕ) : Type 0 where
+record Halts (r : ScanState) (p q : ℕ) (xs : List ℕ) : Type 0 where
   far : ℕ
   place : p + far ≡ q
   within : far ≤ length xs
@@ -346,7 +346,7 @@ record Halts (r : Reading) (p q : ℕ) (xs : List ℕ) : Type 0 where
   can : scan r p (take far xs ++ more) ≡ passes
   cannot : far < length xs → (ys : List ℕ) → scan r p (take (suc far) xs ++ ys) ≡ breaksAt q
 
-halts : (xs : List ℕ) (r : Reading) (p q : ℕ) → scan r p xs ≡ breaksAt q → Halts r p q xs
+halts : (xs : List ℕ) (r : ScanState) (p q : ℕ) → scan r p xs ≡ breaksAt q → Halts r p q xs
 unfolding scan
 halts [] r p q e = by (mayEnd r) e
   where
@@ -357,7 +357,7 @@ halts [] r p q e = by (mayEnd r) e
         record { far = 0; place = omega arith; within = omega arith; more = ending r; can = ending-fine r p; cannot = λ l. absurd (omega arith) }
 halts (b ∷ bs) r p q e = by (step r b) refl (halts bs)
   where
-    by : (s : Step) → step r b ≡ s → ((r : Reading) (p q : ℕ) → scan r p bs ≡ breaksAt q → Halts r p q bs) → Halts r p q (b ∷ bs)
+    by : (s : ScanStep) → step r b ≡ s → ((r : ScanState) (p q : ℕ) → scan r p bs ≡ breaksAt q → Halts r p q bs) → Halts r p q (b ∷ bs)
     by stops f ih =
         let g : breaksAt p ≡ breaksAt q = sym (scan-stop r b p bs f) ∙ e in
         let h : p ≡ q = cc in
@@ -469,15 +469,15 @@ pub term-text : (text : List ℕ) → IsTerm text → textOf (termFrom text) ≡
 term-text text w = ap textOf (term-from text w) ∙ w .written
 
 -- refusal 19: a term is not refused, and behind it a result is of a term
-pub term-or-taken : (text : List ℕ) → IsTerm text → (o : Outcome) → termOr text o ≡ o
-unfolding termOr
+pub term-or-taken : (text : List ℕ) → IsTerm text → (o : Outcome) → termThen text o ≡ o
+unfolding termThen
 term-or-taken text w o = rw (scan-whole text w)
 
-pub term-or-back : (text : List ℕ) (t : ℕ) (o : Outcome) → termOr text o ≡ result t → IsTerm text × (o ≡ result t)
-unfolding termOr
+pub term-or-back : (text : List ℕ) (t : ℕ) (o : Outcome) → termThen text o ≡ result t → IsTerm text × (o ≡ result t)
+unfolding termThen
 term-or-back text t o e = by (scan (due 0) 0 text) refl e
   where
-    by : (s : Scan) → scan (due 0) 0 text ≡ s → breakOr s o ≡ result t → IsTerm text × (o ≡ result t)
+    by : (s : Scan) → scan (due 0) 0 text ≡ s → breakThen s o ≡ result t → IsTerm text × (o ≡ result t)
     by passes f g = (whole-term text f, g)
     by (breaksAt p) f g = let z : _≡_ {A = ℕ} 0 1 = cc in absurd (omega arith)
 

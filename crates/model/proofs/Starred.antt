@@ -14,11 +14,11 @@ use Rattle.model.specs.Reach.{targetOf, rowWith, statesOf, rowOf, stateO
 use Rattle.model.specs.Count.{sum, product, weight, stateCounts, grow, count, total}
 use Rattle.model.specs.Value.{horner, earlierRows, rowValue, valuesOf, numberOf}
 use Rattle.model.specs.Check.{checkWithin, checkOutcome}
-use Rattle.model.specs.Names.{isLetter, isNameByte, allNameBytes, isName, sameName, linesOf, lineWith, symbolOf, isListed, lineGround, namesOr}
-use Rattle.model.specs.Entries.{openAfter, entryGround, endsTooSoon, formOr, treeOr, levelsOf, treeFrom}
-use Rattle.model.specs.Term.{textOfTerms, textOf, step, scan, termOr, run, nameBegins, before, seenFrom, termFrom}
+use Rattle.model.specs.Names.{isLetter, isNameByte, allNameBytes, isName, sameName, linesOf, lineWith, symbolOf, isListed, lineGround, namesThen}
+use Rattle.model.specs.Entries.{openAfter, entryGround, endsTooSoon, formThen, treeThen, levelsOf, treeFrom}
+use Rattle.model.specs.Term.{textOfTerms, textOf, step, scan, termThen, run, nameBegins, before, seenFrom, termFrom}
 use Rattle.model.specs.TermOperations.{symbolsOf, entriesOf, nameGround, readTermOutcome, readTermList}
-use Rattle.model.specs.Number.{reachesNone, stuckOr, acceptedOr, numberTree, numberOutcome}
+use Rattle.model.specs.Number.{reachesNone, stuckThen, acceptedThen, numberTree, numberOutcome}
 use Rattle.model.specs.Write.{writeTree, entriesFor, writeOutcome}
 use Rattle.model.specs.Text.{ascii}
 use Rattle.model.specs.Paper.{paperStates, paperRowList, oneList, paperRows, paperAccepting, paperNames}
@@ -142,14 +142,14 @@ unfolding count
 count-is = λ i q. getD (grown i) q 0
 
 abbrev decided : List ℕ → Outcome
-decided entries = treeOr entries (acceptedOr plainTable (treeFrom entries) (result (numberOf plainTable plainCount (treeFrom entries))))
+decided entries = treeThen entries (acceptedThen plainTable (treeFrom entries) (result (numberOf plainTable plainCount (treeFrom entries))))
 
 number-by : (entries : List ℕ) → numberOutcome paperStates paperRows paperAccepting entries ≡ decided entries
 unfolding numberTree numberOutcome paperTable
 number-by entries =
-    checked-then (checkOutcome paperStates paperRows paperAccepting) 12 (λ total. treeOr entries (acceptedOr paperTable (treeFrom entries) (result (numberOf paperTable (count paperTable) (treeFrom entries))))) paper-checks
-    ∙ ap (λ (T : Table). treeOr entries (acceptedOr T (treeFrom entries) (result (numberOf T (count T) (treeFrom entries))))) table-is
-    ∙ ap (λ (c : ℕ → ℕ). treeOr entries (acceptedOr plainTable (treeFrom entries) (result (numberOf plainTable c (treeFrom entries))))) count-is
+    checked-then (checkOutcome paperStates paperRows paperAccepting) 12 (λ total. treeThen entries (acceptedThen paperTable (treeFrom entries) (result (numberOf paperTable (count paperTable) (treeFrom entries))))) paper-checks
+    ∙ ap (λ (T : Table). treeThen entries (acceptedThen T (treeFrom entries) (result (numberOf T (count T) (treeFrom entries))))) table-is
+    ∙ ap (λ (c : ℕ → ℕ). treeThen entries (acceptedThen plainTable (treeFrom entries) (result (numberOf plainTable c (treeFrom entries))))) count-is
 
 write-by : (n room : ℕ) → writeOutcome paperStates paperRows paperAccepting n room ≡ fitting n room (entriesFor paperStates paperRows paperAccepting n)
 unfolding writeOutcome writeTree entriesFor
@@ -175,7 +175,7 @@ given-quick room (number n s) = ap answer (write-by n room)
 given-quick room (nothing s) = refl
 
 computed : (room : ℕ) → map (quick room) facts ≡ map due facts
-unfolding facts ascii paperNames plainRows paperRowList refuseOn firstFaulty anyBelow howMany howManyRows firstRows rowsOf sameList rowIs serialForest serial rowWith statesOf entryOf sum product weight horner earlierRows rowValue valuesOf numberOf checkWithin checkOutcome stateCounts grow count total isLetter isNameByte allNameBytes isName sameName linesOf lineWith symbolOf isListed lineGround namesOr openAfter entryGround endsTooSoon formOr treeOr levelsOf treeFrom textOfTerms textOf step scan termOr run nameBegins before seenFrom termFrom symbolsOf entriesOf nameGround readTermOutcome readTermList reachesNone stuckOr acceptedOr
+unfolding facts ascii paperNames plainRows paperRowList refuseOn firstFaulty anyBelow howMany howManyRows firstRows rowsOf sameList rowIs serialForest serial rowWith statesOf entryOf sum product weight horner earlierRows rowValue valuesOf numberOf checkWithin checkOutcome stateCounts grow count total isLetter isNameByte allNameBytes isName sameName linesOf lineWith symbolOf isListed lineGround namesThen openAfter entryGround endsTooSoon formThen treeThen levelsOf treeFrom textOfTerms textOf step scan termThen run nameBegins before seenFrom termFrom symbolsOf entriesOf nameGround readTermOutcome readTermList reachesNone stuckThen acceptedThen
 computed room = refl
 
 -- every starred fact follows from the definitions

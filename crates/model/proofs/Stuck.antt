@@ -16,8 +16,8 @@ use Rattle.model.specs.Choice.{if_then_else_}
 use Rattle.model.specs.Table.{Table}
 use Rattle.model.specs.Tree.{Forest, Tree, empty, node, only, serialForest, serial, SymbolsInRange}
 use Rattle.model.specs.Reach.{Reach, none, row, Reaches, Accepted, targetOf, statesOf, rowOf, stateOf, entryOf}
-use Rattle.model.specs.Number.{reachesNone, stuckOr, acceptedOr}
-use Rattle.model.specs.Place.{Closes, BarsClose, ReachesSome, NotAccepted, stuck, unlisted}
+use Rattle.model.specs.Number.{reachesNone, stuckThen, acceptedThen}
+use Rattle.model.specs.Place.{Closes, BarsClose, ReachesSome, UnacceptedAt, stuck, unlisted}
 use Rattle.model.proofs.Choice.{if-yes, if-no, if-result, else-result, refused-number, refused-place, not-both}
 use Rattle.model.proofs.Good.{AllBelow, below-none, below-cons, Sound}
 use Rattle.model.proofs.Longest.{forest-length, serial-length, row-fits}
@@ -61,16 +61,16 @@ module _ (T : Table) (sound : Sound T) where
   -- ---- trees side by side
 
   -- where they reach states, what follows decides
-  pub stuck-taken : {f : Forest} {qs : List ℕ} → Reach (T .rows) f qs → (p : ℕ) (o : Outcome) → stuckOr T f p o ≡ o
-  unfolding stuckOr
+  pub stuck-taken : {f : Forest} {qs : List ℕ} → Reach (T .rows) f qs → (p : ℕ) (o : Outcome) → stuckThen T f p o ≡ o
+  unfolding stuckThen
   stuck-taken none p o = refl
   stuck-taken (row {s} {children = k} {right = r} i w ks ts) p o =
       stuck-taken ks (suc p) _
       ∙ if-no (reachesNone T s k) (refused 14 (suc p + length (serialForest k))) _ (some-reaches (row i w ks none))
       ∙ stuck-taken ts (suc (suc p + length (serialForest k))) o
 
-  states-below : (f : Forest) (p m : ℕ) (o : Outcome) → stuckOr T f p o ≡ result m → AllBelow (T .states) (statesOf T f) × (o ≡ result m)
-  unfolding stuckOr statesOf
+  states-below : (f : Forest) (p m : ℕ) (o : Outcome) → stuckThen T f p o ≡ result m → AllBelow (T .states) (statesOf T f) × (o ≡ result m)
+  unfolding stuckThen statesOf
   states-below empty p m o e = (below-none (T .states), e)
   states-below (node s k r) p m o e =
       let a = states-below k (suc p) m _ e in
@@ -79,29 +79,29 @@ module _ (T : Table) (sound : Sound T) where
       (below-cons (T .states) (targetOf T (rowOf T s k)) (statesOf T r) (reaches-some s k (b .0)) (d .0), d .1)
 
   -- a result: they reach states
-  pub stuck-back : (f : Forest) (p m : ℕ) (o : Outcome) → stuckOr T f p o ≡ result m → Reach (T .rows) f (statesOf T f) × (o ≡ result m)
+  pub stuck-back : (f : Forest) (p m : ℕ) (o : Outcome) → stuckThen T f p o ≡ result m → Reach (T .rows) f (statesOf T f) × (o ≡ result m)
   stuck-back f p m o e = let h = states-below f p m o e in (reach-states sound f (h .0), h .1)
 
   -- ---- a tree
 
   -- an accepted tree is taken
-  pub accepted-taken : {t : Tree} → Accepted T t → (o : Outcome) → acceptedOr T t o ≡ o
-  unfolding acceptedOr
+  pub accepted-taken : {t : Tree} → Accepted T t → (o : Outcome) → acceptedThen T t o ≡ o
+  unfolding acceptedThen
   accepted-taken {t} a o =
       stuck-taken (a .reaches) 0 _
       ∙ if-yes (ltb (entryOf (T .accepting) (stateOf T t)) (length (T .accepting))) o (refused 14 (length (serial t) - 1))
       (lt-ltb (entryOf (T .accepting) (stateOf T t)) (length (T .accepting)) (accepted-exactly sound t .0 a))
 
   -- a tree that is taken is accepted
-  pub accepted-back : (t : Tree) (m : ℕ) (o : Outcome) → acceptedOr T t o ≡ result m → Accepted T t × (o ≡ result m)
-  unfolding acceptedOr
+  pub accepted-back : (t : Tree) (m : ℕ) (o : Outcome) → acceptedThen T t o ≡ result m → Accepted T t × (o ≡ result m)
+  unfolding acceptedThen
   accepted-back t m o e =
       let entry = entryOf (T .accepting) (stateOf T t) in
       let b = else-result (ltb entry (length (T .accepting))) 14 (length (serial t) - 1) m o (stuck-back (only t) 0 m _ e .1) in
       (accepted-exactly sound t .1 (ltb-true entry (length (T .accepting)) (b .0)), b .1)
 
   -- and the result is what follows
-  pub accepted-result : (t : Tree) (k m : ℕ) → acceptedOr T t (result k) ≡ result m → Accepted T t × (k ≡ m)
+  pub accepted-result : (t : Tree) (k m : ℕ) → acceptedThen T t (result k) ≡ result m → Accepted T t × (k ≡ m)
   accepted-result t k m e = let a = accepted-back t m (result k) e in let d = a .1 in (a .0, let z : k ≡ m = cc in z)
 
 -- ---- bars, and the subtrees that they close
@@ -309,23 +309,23 @@ module _ (T : Table) (sound : Sound T) where
       let z : suc place + i ≡ place + suc i = omega arith in
       halts (suc i) u (closes-children s k r c) n (bars-children (ReachesSome T) s k r h i (omega (arith, closes-inside c)) d) (rw z at e)
 
-  walked : (f : Forest) → SymbolsInRange f → (place : ℕ) (o : Outcome) → Walked T f place o (stuckOr T f place o)
-  unfolding stuckOr SymbolsInRange serialForest
+  walked : (f : Forest) → SymbolsInRange f → (place : ℕ) (o : Outcome) → Walked T f place o (stuckThen T f place o)
+  unfolding stuckThen SymbolsInRange serialForest
   walked empty h place o = clear (λ i l. absurd (not-suc-le-zero l)) refl
   walked (node s k r) h place o =
       walked-node s k r place o _ _ h (λ d. walked-own s k r place o _ h d (walked r (h .3) _ o) (reachesNone T s k) refl) (walked k (h .2) (suc place) _)
 
   -- a refusal of a tree is 14, at the place that document 01 says
-  pub stuck-place : (t : Tree) → SymbolsInRange (only t) → (k number place : ℕ) → acceptedOr T t (result k) ≡ refused number place
-      → (number ≡ 14) × NotAccepted T t place
-  unfolding acceptedOr serial
+  pub stuck-place : (t : Tree) → SymbolsInRange (only t) → (k number place : ℕ) → acceptedThen T t (result k) ≡ refused number place
+      → (number ≡ 14) × UnacceptedAt T t place
+  unfolding acceptedThen serial
   stuck-place t h k number place e = go (walked (only t) h 0 _)
     where
       entry : ℕ
       entry = entryOf (T .accepting) (stateOf T t)
 
       listed-nowhere : ltb entry (length (T .accepting)) ≡ false → BarsClose (ReachesSome T) (serial t) (length (serial t)) → suc place ≡ length (serial t)
-          → ReachesSome T t → NotAccepted T t place
+          → ReachesSome T t → UnacceptedAt T t place
       listed-nowhere y d p r =
           unlisted d (r .0) (r .1)
           (λ i l f.
@@ -333,7 +333,7 @@ module _ (T : Table) (sound : Sound T) where
           p
 
       last : (b : Bool) → ltb entry (length (T .accepting)) ≡ b → BarsClose (ReachesSome T) (serial t) (length (serial t))
-          → (if b then result k else refused 14 (length (serial t) - 1)) ≡ refused number place → (number ≡ 14) × NotAccepted T t place
+          → (if b then result k else refused 14 (length (serial t) - 1)) ≡ refused number place → (number ≡ 14) × UnacceptedAt T t place
       last true y d z = let x : _≡_ {A = ℕ} 0 1 = cc in absurd (omega arith)
       last false y d z = (
         sym (refused-number z),
@@ -342,8 +342,8 @@ module _ (T : Table) (sound : Sound T) where
       )
 
       go : Walked T (only t) 0 (if ltb entry (length (T .accepting)) then result k else refused 14 (length (serial t) - 1))
-          (stuckOr T (only t) 0 (if ltb entry (length (T .accepting)) then result k else refused 14 (length (serial t) - 1)))
-          → (number ≡ 14) × NotAccepted T t place
+          (stuckThen T (only t) 0 (if ltb entry (length (T .accepting)) then result k else refused 14 (length (serial t) - 1)))
+          → (number ≡ 14) × UnacceptedAt T t place
       go (clear d z) = last (ltb entry (length (T .accepting))) refl d (sym z ∙ e)
       go (halts i u c n d z) = let y = sym z ∙ e in let x : i ≡ place = omega (arith, refused-place y) in (sym (refused-number y), rw (← x) (stuck u c n d))
 
@@ -357,11 +357,11 @@ module _ (T : Table) (sound : Sound T) where
       go (halts i u c n d z) e = let x : _≡_ {A = ℕ} 0 1 = cc in absurd (omega arith)
 
   -- 14's place is one place, and no accepted tree has it
-  pub not-accepted : {t : Tree} {place : ℕ} → SymbolsInRange (only t) → Accepted T t → NotAccepted T t place → ⊥
+  pub not-accepted : {t : Tree} {place : ℕ} → SymbolsInRange (only t) → Accepted T t → UnacceptedAt T t place → ⊥
   not-accepted h a (stuck u c n d) = let p = bars-each (reaching-bars h (a .reaches)) c (closes-inside c) in n (p .0) (p .1)
   not-accepted h a (unlisted d q r n p) = n (a .entry) (a .listed) (reaches-same (sound .distinct) (a .reaches) r)
 
-pub not-accepted-once : {T : Table} {t : Tree} {p q : ℕ} → NotAccepted T t p → NotAccepted T t q → p ≡ q
+pub not-accepted-once : {T : Table} {t : Tree} {p q : ℕ} → UnacceptedAt T t p → UnacceptedAt T t q → p ≡ q
 not-accepted-once {T} {t} {p} {q} (stuck u c n d) (stuck v e m f) = go (three p q)
   where
     go : Three (p < q) (p ≡ q) (q < p) → p ≡ q

@@ -16,8 +16,8 @@ use Rattle.model.specs.Reach.{rowWith, statesOf, entryOf}
 use Rattle.model.specs.Count.{sum, product, weight, stateCounts, grow, count, total, largest, rowLongest, stateLongest, longest}
 use Rattle.model.specs.Value.{horner, earlierRows, rowValue, valuesOf, numberOf, findBy, childrenFrom, treeIn, treeOf}
 use Rattle.model.specs.Check.{allBelow, cut, tooMany, outOfRange, notBelow, repeated, rowGround, acceptingGround, stateGround, checkWithin, checkOutcome}
-use Rattle.model.specs.Entries.{openAfter, entryGround, endsTooSoon, formOr, treeOr, levelsOf, treeFrom}
-use Rattle.model.specs.Number.{reachesNone, stuckOr, acceptedOr, numberTree, numberOutcome}
+use Rattle.model.specs.Entries.{openAfter, entryGround, endsTooSoon, formThen, treeThen, levelsOf, treeFrom}
+use Rattle.model.specs.Number.{reachesNone, stuckThen, acceptedThen, numberTree, numberOutcome}
 use Rattle.model.specs.Write.{treeEntries, writeTree, writeTreeList, entriesFor, writeOutcome, writeList}
 use Rattle.model.proofs.Choice.{if-yes, if-no, no-fault, or-right}
 use Rattle.model.proofs.Edges.{row, power, two, below-above, even, lengths}
@@ -155,7 +155,7 @@ numbered =
     ∷ []
 
 numbered-hold : map given numbered ≡ map due numbered
-unfolding power two even leaf small numbered checkOutcome checkWithin firstFaulty refuseOn anyBelow rowStart howMany howManyRows firstRows rowsOf sameList rowIs sum product weight stateCounts grow count total largest rowLongest stateLongest longest allBelow cut tooMany outOfRange notBelow repeated rowGround acceptingGround stateGround serialForest serial rowWith statesOf entryOf horner earlierRows rowValue valuesOf numberOf openAfter entryGround endsTooSoon formOr treeOr levelsOf treeFrom reachesNone stuckOr acceptedOr numberTree numberOutcome
+unfolding power two even leaf small numbered checkOutcome checkWithin firstFaulty refuseOn anyBelow rowStart howMany howManyRows firstRows rowsOf sameList rowIs sum product weight stateCounts grow count total largest rowLongest stateLongest longest allBelow cut tooMany outOfRange notBelow repeated rowGround acceptingGround stateGround serialForest serial rowWith statesOf entryOf horner earlierRows rowValue valuesOf numberOf openAfter entryGround endsTooSoon formThen treeThen levelsOf treeFrom reachesNone stuckThen acceptedThen numberTree numberOutcome
 numbered-hold = refl
 
 written : List Example
@@ -201,8 +201,8 @@ opens-sound n i l = rw (getD-replicate {A = ℕ} n i 1 0 l, take-all n i (omega 
     go zero = refl
     go (suc i) = rw (ne-eqb (suc i + 0) 0 (λ e. omega arith)) (if-no (ltb 255 1 || (eqb 1 0 && false) || (ltb 0 (suc i) && false)) 13 0 (and-false (ltb 0 (suc i))))
 
-opens-only : (n : ℕ) (o : Outcome) → 0 < n → n ≤ 4096 → treeOr (opening n) o ≡ refused 13 n
-unfolding treeOr formOr endsTooSoon
+opens-only : (n : ℕ) (o : Outcome) → 0 < n → n ≤ 4096 → treeThen (opening n) o ≡ refused 13 n
+unfolding treeThen formThen endsTooSoon
 opens-only n o p l =
     rw (length-replicate {A = ℕ} n 1, open-all n 0)
     (if-no (ltb 4096 n) (refused 12 0) _ (le-ltb 4096 n l)

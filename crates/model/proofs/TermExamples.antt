@@ -12,9 +12,9 @@ use Rattle.model.specs.Choice.{if_then_else_, refuseOn, firstFaulty, any
 use Rattle.model.specs.Text.{ascii}
 use Rattle.model.specs.Table.{sameList}
 use Rattle.model.specs.Tree.{serialForest, serial}
-use Rattle.model.specs.Names.{IsNamesList, isLetter, isNameByte, allNameBytes, isName, sameName, linesOf, nameOf, lineWith, symbolOf, isListed, lineGround, namesOr}
-use Rattle.model.specs.Entries.{openAfter, entryGround, endsTooSoon, formOr, treeOr, levelsOf, treeFrom}
-use Rattle.model.specs.Term.{Terms, none, term, Term, alone, AllNames, IsTerm, textOfTerms, textOf, step, scan, termOr, run, nameBegins, before, seenFrom, termFrom}
+use Rattle.model.specs.Names.{IsNamesList, isLetter, isNameByte, allNameBytes, isName, sameName, linesOf, nameOf, lineWith, symbolOf, isListed, lineGround, namesThen}
+use Rattle.model.specs.Entries.{openAfter, entryGround, endsTooSoon, formThen, treeThen, levelsOf, treeFrom}
+use Rattle.model.specs.Term.{Terms, none, term, Term, alone, AllNames, IsTerm, textOfTerms, textOf, step, scan, termThen, run, nameBegins, before, seenFrom, termFrom}
 use Rattle.model.specs.TermOperations.{symbolsOf, namesOf, treeOfTerm, AllListed, entriesOf, bytesOf, nameGround, readTermWithin, readTermOutcome, symbolGround, writeTermOutcome, readTermList, writeTermList}
 use Rattle.model.specs.Inverse.{Readable}
 use Rattle.model.specs.TermRefusals.{read21}
@@ -53,11 +53,11 @@ refusedAt place (refused number p) = eqb p place
 
 -- the bytes that may stand in a names list between the texts: with any other the first line is faulty
 unfoldable named : (before after : List ℕ) → List ℕ
-named before after = bytesWith (λ b. not (refusedAt 0 (namesOr (before ++ b ∷ after) (result 0)))) 256
+named before after = bytesWith (λ b. not (refusedAt 0 (namesThen (before ++ b ∷ after) (result 0)))) 256
 
 -- the bytes with which a term can go on after a text
 unfoldable goesOn : List ℕ → List ℕ
-goesOn text = bytesWith (λ b. not (refusedAt (length text) (termOr (text ++ b ∷ []) (result 0)))) 256
+goesOn text = bytesWith (λ b. not (refusedAt (length text) (termThen (text ++ b ∷ []) (result 0)))) 256
 
 -- a name of 24 bytes
 long : List ℕ
@@ -67,7 +67,7 @@ long = ascii "abcdefghijklmnopqrstu_-9"
 name-places : (named [] (ascii "\n") ≡ letters) × (named [] (ascii "a\n") ≡ letters)
     × (named (ascii "a") (ascii "\n") ≡ ascii "\n" ++ nameBytes) × (named (ascii "a") (ascii "b\n") ≡ ascii "\n" ++ nameBytes)
     × (named long (ascii "\n") ≡ ascii "\n")
-unfolding ascii letters nameBytes long bytesWith named refuseOn firstFaulty anyBelow sameList isLetter isNameByte allNameBytes isName sameName linesOf lineGround namesOr
+unfolding ascii letters nameBytes long bytesWith named refuseOn firstFaulty anyBelow sameList isLetter isNameByte allNameBytes isName sameName linesOf lineGround namesThen
 name-places = (refl, refl, refl, refl, refl)
 
 -- "A term is a name, or a name followed by `(`, one or more terms with `,` between them, and `)`. It holds no blanks": where a name is due; in
@@ -76,7 +76,7 @@ term-places : (goesOn [] ≡ letters) × (goesOn (ascii "a(") ≡ letters) × (g
     × (goesOn (ascii "a") ≡ ascii "(" ++ nameBytes) × (goesOn (ascii "a(a") ≡ ascii "()," ++ nameBytes)
     × (goesOn long ≡ ascii "(") × (goesOn (ascii "a(" ++ long) ≡ ascii "(),")
     × (goesOn (ascii "a(a)") ≡ []) × (goesOn (ascii "a(a(a)") ≡ ascii "),")
-unfolding ascii letters nameBytes long bytesWith goesOn isLetter isNameByte step scan termOr
+unfolding ascii letters nameBytes long bytesWith goesOn isLetter isNameByte step scan termThen
 term-places = (refl, refl, refl, refl, refl, refl, refl, refl, refl)
 
 -- ---- answers and lists
@@ -174,7 +174,7 @@ examples =
     ∷ []
 
 term-examples : map given examples ≡ map due examples
-unfolding examples ascii ab two long refuseOn firstFaulty anyBelow sameList serialForest serial isLetter isNameByte allNameBytes isName sameName linesOf nameOf lineWith symbolOf isListed lineGround namesOr openAfter entryGround endsTooSoon formOr treeOr levelsOf treeFrom textOfTerms textOf step scan termOr run nameBegins before seenFrom termFrom symbolsOf namesOf entriesOf bytesOf nameGround readTermOutcome symbolGround writeTermOutcome readTermList writeTermList
+unfolding examples ascii ab two long refuseOn firstFaulty anyBelow sameList serialForest serial isLetter isNameByte allNameBytes isName sameName linesOf nameOf lineWith symbolOf isListed lineGround namesThen openAfter entryGround endsTooSoon formThen treeThen levelsOf treeFrom textOfTerms textOf step scan termThen run nameBegins before seenFrom termFrom symbolsOf namesOf entriesOf bytesOf nameGround readTermOutcome symbolGround writeTermOutcome readTermList writeTermList
 term-examples = refl
 
 -- ---- limits from both sides, with a later ground that holds too
@@ -208,7 +208,7 @@ limits =
     ∷ []
 
 limit-examples : map given limits ≡ map due limits
-unfolding limits times manyNames ascii ab two refuseOn firstFaulty anyBelow sameList serialForest serial isLetter isNameByte allNameBytes isName sameName linesOf lineWith symbolOf isListed lineGround namesOr openAfter entryGround formOr treeOr textOfTerms textOf step scan termOr run nameBegins before seenFrom termFrom symbolsOf entriesOf nameGround readTermOutcome writeTermOutcome readTermList writeTermList
+unfolding limits times manyNames ascii ab two refuseOn firstFaulty anyBelow sameList serialForest serial isLetter isNameByte allNameBytes isName sameName linesOf lineWith symbolOf isListed lineGround namesThen openAfter entryGround formThen treeThen textOfTerms textOf step scan termThen run nameBegins before seenFrom termFrom symbolsOf entriesOf nameGround readTermOutcome writeTermOutcome readTermList writeTermList
 limit-examples = refl
 
 -- 21: a term of 9 bytes whose tree has 8 entries, with a limit for the entries. `readTermOutcome` is the use at 4,096, where the shortest text
@@ -221,7 +221,7 @@ entry-limit :
     (within 8 8 (ascii "b(b(a),a)") ≡ result 8) × (within 7 8 (ascii "b(b(a),a)") ≡ refused 21 0) × (within 2 8 (ascii "b(b(a),a)") ≡ refused 21 0)
     -- 21 comes before 22, and after 20
     × (within 8 7 (ascii "b(b(a),a)") ≡ refused 22 8) × (within 7 7 (ascii "b(b(a),a)") ≡ refused 21 0) × (within 7 7 (ascii "b(b(a),c)") ≡ refused 20 7)
-unfolding ascii ab refuseOn firstFaulty anyBelow sameList serialForest serial isLetter isNameByte allNameBytes isName sameName linesOf lineWith symbolOf isListed lineGround namesOr textOfTerms textOf step scan termOr run nameBegins before seenFrom termFrom symbolsOf entriesOf nameGround
+unfolding ascii ab refuseOn firstFaulty anyBelow sameList serialForest serial isLetter isNameByte allNameBytes isName sameName linesOf lineWith symbolOf isListed lineGround namesThen textOfTerms textOf step scan termThen run nameBegins before seenFrom termFrom symbolsOf entriesOf nameGround
 entry-limit = (refl, refl, refl, refl, refl, refl)
 
 -- ---- 21 at its real size, by the laws: a name with n + 1 leaves in its brackets, `a(a,..,a)`
@@ -294,7 +294,7 @@ wide-entries n =
     ∙ omega (arith, leaves-entries (suc n), length-append (serialForest (symbolsOf ab (leaves (suc n)))) (0 ∷ []))
 
 ab-list : IsNamesList ab
-unfolding ascii ab refuseOn firstFaulty anyBelow sameList isLetter isNameByte allNameBytes isName sameName linesOf lineGround namesOr
+unfolding ascii ab refuseOn firstFaulty anyBelow sameList isLetter isNameByte allNameBytes isName sameName linesOf lineGround namesThen
 ab-list = names-list ab (names-back ab 0 (result 0) refl .0)
 
 -- 2,048 names, so 4,096 entries, are taken; 2,049 are 21 at 0

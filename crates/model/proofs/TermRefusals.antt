@@ -13,15 +13,15 @@ use borrow.Author.Tests.{ltb-true, ltb-false, lt-ltb, le-ltb, eqb-true, eqb-fals
 use Rattle.model.specs.Answers.{Outcome, result, refused}
 use Rattle.model.specs.Choice.{if_then_else_, firstFaulty, anyBelow}
 use Rattle.model.specs.Tree.{WellFormed}
-use Rattle.model.specs.Names.{isNameByte, allNameBytes, isName, sameName, IsNamesList, Line, joined, linesOf, noLine, lineAt, howManyNames, isListed, lineGround, namesOr}
-use Rattle.model.specs.Entries.{formOr, treeOr}
-use Rattle.model.specs.Term.{Terms, none, term, alone, textOfTerms, textOf, AllNames, IsTerm, Scan, passes, breaksAt, breakOr, scan, due, termOr, run, nameBegins, nameAt}
+use Rattle.model.specs.Names.{isNameByte, allNameBytes, isName, sameName, IsNamesList, Line, joined, linesOf, noLine, lineAt, howManyNames, isListed, lineGround, namesThen}
+use Rattle.model.specs.Entries.{formThen, treeThen}
+use Rattle.model.specs.Term.{Terms, none, term, alone, textOfTerms, textOf, AllNames, IsTerm, Scan, passes, breaksAt, breakThen, scan, due, termThen, run, nameBegins, nameAt}
 use Rattle.model.specs.TermOperations.{AllListed, entriesOf, bytesOf, nameGround, readTermOutcome, symbolGround, writeTermOutcome}
 use Rattle.model.specs.Place.{CanGoOn, StopsAt}
 use Rattle.model.specs.TermRefusals.{firstLines, FaultyLine, Placed, namesFrom, FirstUnlisted, FirstUnnamed, ReadRefused, read17, read18, read19, read20, read21, read22, WriteRefused, write17, write12, write13, write23, write24, ReadRefuses, WriteRefuses, ReadRefusedOnce, WriteRefusedOnce, ReadElse, WriteElse}
 use Rattle.model.proofs.Choice.{if-no, if-zero, not-both, no-fault, no-fault-back, refused-number, refused-place, Decided, clear, faulty, decided, if-refused, result-only, refused-only, one-place, if-place, if-some}
 use Rattle.model.proofs.Bytes.{open-no-byte, close-no-byte, comma-no-byte, end-no-byte, byte-first, byte-others, name-parts, name-bytes, NoByte, run-all}
-use Rattle.model.proofs.Entries.{form-place, tree-or-taken, tree-or-back}
+use Rattle.model.proofs.Entries.{form-place, tree-then-taken, tree-then-back}
 use Rattle.model.proofs.Scan.{bracketed, following, text-after, whole-term, scan-place, term-or-taken, term-or-back}
 use Rattle.model.proofs.Names.{Sound, SoundLine, line-clear, clear-line, sound-line, lines-sound, some-lines, names-list, list-sound, names-taken, names-back}
 use Rattle.model.proofs.Listed.{brackets-stop, comma-stop, begins, begins-next, begins-first, listed-names, names-listed, symbol-low, low-symbol, terms-length}
@@ -93,9 +93,9 @@ faulty-none [] d = record { before = inl refl; faulty = λ w. not-suc-le-zero (l
 faulty-none (b ∷ bs) d = absurd (omega arith)
 
 -- a refusal is 17, at the first faulty line; or it is a names list, and what follows is the refusal
-pub names-place : (names : List ℕ) (k p : ℕ) (o : Outcome) → namesOr names o ≡ refused k p
+pub names-place : (names : List ℕ) (k p : ℕ) (o : Outcome) → namesThen names o ≡ refused k p
     → ((k ≡ 17) × FaultyLine names p) ⊎ (IsNamesList names × (o ≡ refused k p))
-unfolding namesOr
+unfolding namesThen
 names-place names k p o e = go (if-refused (eqb (length names) 0) 17 0 k p _ e)
   where
     go : ((eqb (length names) 0 ≡ true) × (k ≡ 17) × (p ≡ 0)) ⊎ ((eqb (length names) 0 ≡ false) × (firstFaulty (howManyNames names) (lineGround names) o ≡ refused k p))
@@ -142,9 +142,9 @@ faulty-once names p q f g = one-place p q (not-before p q f g) (not-before q p g
             (list-sound (firstLines names j) w)))
 
 -- a names list whose first faulty line this is: 17, at that place
-pub names-refused : (names : List ℕ) (p : ℕ) → FaultyLine names p → (o : Outcome) → namesOr names o ≡ refused 17 p
+pub names-refused : (names : List ℕ) (p : ℕ) → FaultyLine names p → (o : Outcome) → namesThen names o ≡ refused 17 p
 names-refused names p f o =
-    refused-only (namesOr names o) 17 p (λ t e. faulty-no-list names p f (names-list names (names-back names t o e .0)))
+    refused-only (namesThen names o) 17 p (λ t e. faulty-no-list names p f (names-list names (names-back names t o e .0)))
     (λ k q e. go k q (names-place names k q o e))
   where
     go : (k q : ℕ) → ((k ≡ 17) × FaultyLine names q) ⊎ (IsNamesList names × (o ≡ refused k q)) → (k ≡ 17) × (q ≡ p)
@@ -171,19 +171,19 @@ stops-once Whole items p q s t = one-place p q (not-before p q s t) (not-before 
     not-before i j x y l = x .cannot (omega (arith, y .within)) (earlier-on Whole items (suc i) j l (y .can))
 
 -- a refusal is 19, at the first byte with which no term can go on; or the text is a term, and what follows is the refusal
-pub term-place : (text : List ℕ) (k p : ℕ) (o : Outcome) → termOr text o ≡ refused k p
+pub term-place : (text : List ℕ) (k p : ℕ) (o : Outcome) → termThen text o ≡ refused k p
     → ((k ≡ 19) × StopsAt IsTerm text p) ⊎ (IsTerm text × (o ≡ refused k p))
-unfolding termOr
+unfolding termThen
 term-place text k p o e = go (scan (due 0) 0 text) refl e
   where
-    go : (s : Scan) → scan (due 0) 0 text ≡ s → breakOr s o ≡ refused k p → ((k ≡ 19) × StopsAt IsTerm text p) ⊎ (IsTerm text × (o ≡ refused k p))
+    go : (s : Scan) → scan (due 0) 0 text ≡ s → breakThen s o ≡ refused k p → ((k ≡ 19) × StopsAt IsTerm text p) ⊎ (IsTerm text × (o ≡ refused k p))
     go passes f d = inr (whole-term text f, d)
     go (breaksAt q) f d = inl (sym (refused-number d), rw (← refused-place d) (scan-place text q f))
 
 -- a text that stops being a term: 19, at that place
-pub term-refused : (text : List ℕ) (p : ℕ) → StopsAt IsTerm text p → (o : Outcome) → termOr text o ≡ refused 19 p
+pub term-refused : (text : List ℕ) (p : ℕ) → StopsAt IsTerm text p → (o : Outcome) → termThen text o ≡ refused 19 p
 term-refused text p s o =
-    refused-only (termOr text o) 19 p (λ t e. s .short (term-or-back text t o e .0)) (λ k q e. go k q (term-place text k q o e))
+    refused-only (termThen text o) 19 p (λ t e. s .short (term-or-back text t o e .0)) (λ k q e. go k q (term-place text k q o e))
   where
     go : (k q : ℕ) → ((k ≡ 19) × StopsAt IsTerm text q) ⊎ (IsTerm text × (o ≡ refused k q)) → (k ≡ 19) × (q ≡ p)
     go k q (inl x) = (x .0, stops-once IsTerm text q p (x .1) s)
@@ -382,11 +382,11 @@ pub data TreePlace (tree : List ℕ) (k p : ℕ) (o : Outcome) : Type 0 where
   no-tree : k ≡ 13 → length tree ≤ 4096 → StopsAt WellFormed tree p → TreePlace tree k p o
   after : length tree ≤ 4096 → WellFormed tree → o ≡ refused k p → TreePlace tree k p o
 
-pub tree-place : (tree : List ℕ) (k p : ℕ) (o : Outcome) → treeOr tree o ≡ refused k p → TreePlace tree k p o
-unfolding treeOr
-tree-place tree k p o e = go (if-refused (ltb 4096 (length tree)) 12 0 k p (formOr tree o) e)
+pub tree-place : (tree : List ℕ) (k p : ℕ) (o : Outcome) → treeThen tree o ≡ refused k p → TreePlace tree k p o
+unfolding treeThen
+tree-place tree k p o e = go (if-refused (ltb 4096 (length tree)) 12 0 k p (formThen tree o) e)
   where
-    go : ((ltb 4096 (length tree) ≡ true) × (k ≡ 12) × (p ≡ 0)) ⊎ ((ltb 4096 (length tree) ≡ false) × (formOr tree o ≡ refused k p)) → TreePlace tree k p o
+    go : ((ltb 4096 (length tree) ≡ true) × (k ≡ 12) × (p ≡ 0)) ⊎ ((ltb 4096 (length tree) ≡ false) × (formThen tree o ≡ refused k p)) → TreePlace tree k p o
     go (inl x) = long (x .1) (x .2) (ltb-true 4096 (length tree) (x .0))
     go (inr x) = at (form-place tree k p o (x .1))
       where
@@ -411,9 +411,9 @@ named-place names tree k p o e = go (decided (length tree) (symbolGround names t
         inl (sym (refused-number r) ∙ s .1, rw (← refused-place r) f)
 
 -- a list of at most 4,096 entries that stops being a tree: 13, at that place
-pub tree-refused : (tree : List ℕ) (p : ℕ) → length tree ≤ 4096 → StopsAt WellFormed tree p → (o : Outcome) → treeOr tree o ≡ refused 13 p
+pub tree-refused : (tree : List ℕ) (p : ℕ) → length tree ≤ 4096 → StopsAt WellFormed tree p → (o : Outcome) → treeThen tree o ≡ refused 13 p
 tree-refused tree p l s o =
-    refused-only (treeOr tree o) 13 p (λ t e. s .short (tree-or-back tree t o e .0)) (λ k q e. go k q (tree-place tree k q o e))
+    refused-only (treeThen tree o) 13 p (λ t e. s .short (tree-then-back tree t o e .0)) (λ k q e. go k q (tree-place tree k q o e))
   where
     go : (k q : ℕ) → TreePlace tree k q o → (k ≡ 13) × (q ≡ p)
     go k q (long x y m) = absurd (omega arith)
@@ -421,9 +421,9 @@ tree-refused tree p l s o =
     go k q (after m w x) = absurd (s .short w)
 
 -- a list of more than 4,096 entries: 12
-pub tree-long : (tree : List ℕ) (p : ℕ) → 4096 < length tree → p ≡ 0 → (o : Outcome) → treeOr tree o ≡ refused 12 p
-unfolding treeOr
-tree-long tree p l d o = if-place (ltb 4096 (length tree)) 12 0 p (formOr tree o) (lt-ltb 4096 (length tree) l) d
+pub tree-long : (tree : List ℕ) (p : ℕ) → 4096 < length tree → p ≡ 0 → (o : Outcome) → treeThen tree o ≡ refused 12 p
+unfolding treeThen
+tree-long tree p l d o = if-place (ltb 4096 (length tree)) 12 0 p (formThen tree o) (lt-ltb 4096 (length tree) l) d
 
 -- one entry at most is the first symbol above the count of names
 pub unnamed-once : (names tree : List ℕ) (p q : ℕ) → FirstUnnamed names tree p → FirstUnnamed names tree q → p ≡ q
@@ -465,7 +465,7 @@ module _ (names text : List ℕ) (room : ℕ) where
   listing = firstFaulty (length text) (nameGround names text) entered
 
   abbrev reading : Outcome
-  reading = if ltb 65536 (length text) then refused 18 0 else termOr text listing
+  reading = if ltb 65536 (length text) then refused 18 0 else termThen text listing
 
   -- a refusal has its ground
   read-ground : (k p : ℕ) → readTermOutcome names text room ≡ refused k p → ReadRefused names text room k p
@@ -489,7 +489,7 @@ module _ (names text : List ℕ) (room : ℕ) where
       by-term n l (inl x) = read19 (x .0) n l (x .1)
       by-term n l (inr x) = by-listed n l (x .0) (listed-place names text (x .0) k p entered (x .1))
 
-      by-length : IsNamesList names → ((ltb 65536 (length text) ≡ true) × (k ≡ 18) × (p ≡ 0)) ⊎ ((ltb 65536 (length text) ≡ false) × (termOr text listing ≡ refused k p))
+      by-length : IsNamesList names → ((ltb 65536 (length text) ≡ true) × (k ≡ 18) × (p ≡ 0)) ⊎ ((ltb 65536 (length text) ≡ false) × (termThen text listing ≡ refused k p))
           → ReadRefused names text room k p
       by-length n (inl x) = read18 (x .1) (x .2) n (ltb-true 65536 (length text) (x .0))
       by-length n (inr x) = by-term n (ltb-false 65536 (length text) (x .0)) (term-place text k p listing (x .1))
@@ -503,19 +503,19 @@ module _ (names text : List ℕ) (room : ℕ) where
   unfolding readTermOutcome
   ground-read k p g = by g
     where
-      past-17 : IsNamesList names → namesOr names reading ≡ reading
+      past-17 : IsNamesList names → namesThen names reading ≡ reading
       past-17 n = names-taken names (list-sound names n) reading
 
-      past-18 : IsNamesList names → length text ≤ 65536 → namesOr names reading ≡ termOr text listing
+      past-18 : IsNamesList names → length text ≤ 65536 → namesThen names reading ≡ termThen text listing
       past-18 n l = past-17 n ∙ if-no (ltb 65536 (length text)) _ _ (le-ltb 65536 (length text) l)
 
-      past-19 : IsNamesList names → length text ≤ 65536 → IsTerm text → namesOr names reading ≡ listing
+      past-19 : IsNamesList names → length text ≤ 65536 → IsTerm text → namesThen names reading ≡ listing
       past-19 n l w = past-18 n l ∙ term-or-taken text w listing
 
-      past-20 : IsNamesList names → length text ≤ 65536 → (w : IsTerm text) → AllListed names (alone (w .is)) → namesOr names reading ≡ entered
+      past-20 : IsNamesList names → length text ≤ 65536 → (w : IsTerm text) → AllListed names (alone (w .is)) → namesThen names reading ≡ entered
       past-20 n l w a = past-19 n l w ∙ no-fault (length text) (nameGround names text) entered (names-listed names text w a)
 
-      by : ReadRefused names text room k p → namesOr names reading ≡ refused k p
+      by : ReadRefused names text room k p → namesThen names reading ≡ refused k p
       by (read17 e f) = rw e (names-refused names p f reading)
       by (read18 e d n l) = rw e (past-17 n ∙ if-place (ltb 65536 (length text)) 18 0 p _ (lt-ltb 65536 (length text) l) d)
       by (read19 e n l s) = rw e (past-18 n l ∙ term-refused text p s listing)
@@ -544,11 +544,11 @@ module _ (names tree : List ℕ) (room : ℕ) where
   abbrev bytes : ℕ
   bytes = length (bytesOf names tree)
 
-  abbrev lettered : Outcome
-  lettered = if ltb room bytes then refused 24 bytes else result bytes
+  abbrev writing24 : Outcome
+  writing24 = if ltb room bytes then refused 24 bytes else result bytes
 
   abbrev naming : Outcome
-  naming = firstFaulty (length tree) (symbolGround names tree) lettered
+  naming = firstFaulty (length tree) (symbolGround names tree) writing24
 
   -- a refusal has its ground
   write-ground : (k p : ℕ) → writeTermOutcome names tree room ≡ refused k p → WriteRefused names tree room k p
@@ -556,7 +556,7 @@ module _ (names tree : List ℕ) (room : ℕ) where
   write-ground k p e = by-names (names-place names k p _ e)
     where
       by-named : IsNamesList names → length tree ≤ 4096 → WellFormed tree
-          → ((k ≡ 23) × FirstUnnamed names tree p) ⊎ (((i : ℕ) → i < length tree → getD tree i 0 ≤ howManyNames names) × (lettered ≡ refused k p))
+          → ((k ≡ 23) × FirstUnnamed names tree p) ⊎ (((i : ℕ) → i < length tree → getD tree i 0 ≤ howManyNames names) × (writing24 ≡ refused k p))
           → WriteRefused names tree room k p
       by-named n l w (inl x) = write23 (x .0) n l w (x .1)
       by-named n l w (inr x) =
@@ -566,9 +566,9 @@ module _ (names tree : List ℕ) (room : ℕ) where
       by-tree : IsNamesList names → TreePlace tree k p naming → WriteRefused names tree room k p
       by-tree n (long x y l) = write12 x y n l
       by-tree n (no-tree x l s) = write13 x n l s
-      by-tree n (after l w x) = by-named n l w (named-place names tree k p lettered x)
+      by-tree n (after l w x) = by-named n l w (named-place names tree k p writing24 x)
 
-      by-names : ((k ≡ 17) × FaultyLine names p) ⊎ (IsNamesList names × (treeOr tree naming ≡ refused k p)) → WriteRefused names tree room k p
+      by-names : ((k ≡ 17) × FaultyLine names p) ⊎ (IsNamesList names × (treeThen tree naming ≡ refused k p)) → WriteRefused names tree room k p
       by-names (inl x) = write17 (x .0) (x .1)
       by-names (inr x) = by-tree (x .0) (tree-place tree k p naming (x .1))
 
@@ -577,21 +577,21 @@ module _ (names tree : List ℕ) (room : ℕ) where
   unfolding writeTermOutcome
   ground-write k p g = by g
     where
-      past-17 : IsNamesList names → namesOr names (treeOr tree naming) ≡ treeOr tree naming
-      past-17 n = names-taken names (list-sound names n) (treeOr tree naming)
+      past-17 : IsNamesList names → namesThen names (treeThen tree naming) ≡ treeThen tree naming
+      past-17 n = names-taken names (list-sound names n) (treeThen tree naming)
 
-      past-13 : IsNamesList names → length tree ≤ 4096 → WellFormed tree → namesOr names (treeOr tree naming) ≡ naming
-      past-13 n l w = past-17 n ∙ tree-or-taken tree w l naming
+      past-13 : IsNamesList names → length tree ≤ 4096 → WellFormed tree → namesThen names (treeThen tree naming) ≡ naming
+      past-13 n l w = past-17 n ∙ tree-then-taken tree w l naming
 
-      by : WriteRefused names tree room k p → namesOr names (treeOr tree naming) ≡ refused k p
-      by (write17 e f) = rw e (names-refused names p f (treeOr tree naming))
+      by : WriteRefused names tree room k p → namesThen names (treeThen tree naming) ≡ refused k p
+      by (write17 e f) = rw e (names-refused names p f (treeThen tree naming))
       by (write12 e d n l) = rw e (past-17 n ∙ tree-long tree p l d naming)
       by (write13 e n l s) = rw e (past-17 n ∙ tree-refused tree p l s naming)
-      by (write23 e n l w f) = rw e (past-13 n l w ∙ named-refused names tree p f lettered)
+      by (write23 e n l w f) = rw e (past-13 n l w ∙ named-refused names tree p f writing24)
       by (write24 e d w l) =
           rw e
           (past-13 (w .list) (w .few) (w .well)
-          ∙ no-fault (length tree) (symbolGround names tree) lettered (λ i m. low-symbol names tree i (w .named i m))
+          ∙ no-fault (length tree) (symbolGround names tree) writing24 (λ i m. low-symbol names tree i (w .named i m))
           ∙ if-place (ltb room bytes) 24 bytes p _ (lt-ltb room bytes (omega arith)) d)
 
 pub write-refuses : WriteRefuses

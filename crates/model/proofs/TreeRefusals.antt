@@ -13,9 +13,9 @@ use Rattle.model.specs.Reach.{Accepted}
 use Rattle.model.specs.Count.{count}
 use Rattle.model.specs.Value.{numberOf}
 use Rattle.model.specs.Check.{checkOutcome, Passes}
-use Rattle.model.specs.Place.{NotAccepted}
-use Rattle.model.specs.Number.{acceptedOr, numberTree, numberOutcome}
-use Rattle.model.specs.Entries.{treeOr, treeFrom}
+use Rattle.model.specs.Place.{UnacceptedAt}
+use Rattle.model.specs.Number.{acceptedThen, numberTree, numberOutcome}
+use Rattle.model.specs.Entries.{treeThen, treeFrom}
 use Rattle.model.specs.Write.{writeTreeList, entriesFor, writeOutcome, writeList}
 use Rattle.model.specs.Demand3.{HasTree}
 use Rattle.model.specs.TreeRefusals.{NumberRefused, numberAsCheck, number12, number13, number14, TreeRefused, treeAsCheck, tree15, tree16, NumberRefuses, TreeRefuses, TreeLent}
@@ -38,7 +38,7 @@ module _ (states : ℕ) (rows accepting : List ℕ) where
 
   -- what follows a check that passes
   numbers-by : (total : ℕ) → Passes states rows accepting total → (tree : List ℕ)
-      → numberOutcome states rows accepting tree ≡ treeOr tree (acceptedOr T (treeFrom tree) (result (numberOf T (count T) (treeFrom tree))))
+      → numberOutcome states rows accepting tree ≡ treeThen tree (acceptedThen T (treeFrom tree) (result (numberOf T (count T) (treeFrom tree))))
   unfolding numberOutcome numberTree
   numbers-by total passes tree = checked-then (checkOutcome states rows accepting) total _ passes
 
@@ -46,7 +46,7 @@ module _ (states : ℕ) (rows accepting : List ℕ) where
   number-ground tree number place e = go (checkOutcome states rows accepting) refl
     where
       at : (total : ℕ) → Passes states rows accepting total
-          → TreePlace tree number place (acceptedOr T (treeFrom tree) (result (numberOf T (count T) (treeFrom tree)))) → NumberRefused states rows accepting tree number place
+          → TreePlace tree number place (acceptedThen T (treeFrom tree) (result (numberOf T (count T) (treeFrom tree)))) → NumberRefused states rows accepting tree number place
       at total passes (long x y l) = number12 x y total passes l
       at total passes (no-tree x l s) = number13 x total passes l s
       at total passes (after l w z) = let p = number-refused states rows accepting total passes tree w l number place e in number14 (p .0) total passes l w (p .1)
@@ -56,7 +56,7 @@ module _ (states : ℕ) (rows accepting : List ℕ) where
       go (result total) c = at total c (tree-place tree number place _ (sym (numbers-by total c tree) ∙ e))
 
   -- the tree of a numbered list
-  not-numbered : (total : ℕ) → Passes states rows accepting total → (tree : List ℕ) (w : WellFormed tree) (place m : ℕ) → NotAccepted T (w .tree) place
+  not-numbered : (total : ℕ) → Passes states rows accepting total → (tree : List ℕ) (w : WellFormed tree) (place m : ℕ) → UnacceptedAt T (w .tree) place
       → numberOutcome states rows accepting tree ≡ result m → ⊥
   not-numbered total passes tree w place m n e =
       let a = answer-number states rows accepting total passes tree m e .accepts in

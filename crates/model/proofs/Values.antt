@@ -56,7 +56,7 @@ sum-step (w ∷ ws) zero (suc j) l = omega arith
 sum-step (w ∷ ws) (suc i) (suc j) l = omega (arith, sum-step ws i j (le-of-suc-le-suc l))
 
 -- the weight that holds h: the weights before it make h with the rest, and the rest is below the weight
-pub record Found (ws : List ℕ) (h : ℕ) (p : Picked) : Type 0 where
+pub record FindsAt (ws : List ℕ) (h : ℕ) (p : Picked) : Type 0 where
   pub inside : p .which < length ws
   pub less : p .rest < getD ws (p .which) 0
   pub is : sum (take (p .which) ws) + p .rest ≡ h
@@ -66,13 +66,13 @@ abbrev pickBy : Bool → ℕ → Picked → Picked
 pickBy b h p = if b then record { which = 0; rest = h } else record { which = suc (p .which); rest = p .rest }
 
 -- a number below the sum of all is found
-pub found : (ws : List ℕ) (h : ℕ) → h < sum ws → Found ws h (findBy ws h)
+pub found : (ws : List ℕ) (h : ℕ) → h < sum ws → FindsAt ws h (findBy ws h)
 unfolding sum findBy
 found [] h l = absurd (not-suc-le-zero l)
 found (w ∷ ws) h l = go (ltb h w) (ltb-true h w) (ltb-false h w) (found ws (h - w))
   where
-    go : (b : Bool) → (b ≡ true → h < w) → (b ≡ false → w ≤ h) → (h - w < sum ws → Found ws (h - w) (findBy ws (h - w)))
-        → Found (w ∷ ws) h (pickBy b h (findBy ws (h - w)))
+    go : (b : Bool) → (b ≡ true → h < w) → (b ≡ false → w ≤ h) → (h - w < sum ws → FindsAt ws (h - w) (findBy ws (h - w)))
+        → FindsAt (w ∷ ws) h (pickBy b h (findBy ws (h - w)))
     go true y n ih = record { inside = omega arith; less = y refl; is = omega arith }
     go false y n ih =
         let le : w ≤ h = n refl in

@@ -7,7 +7,7 @@ use lib.ListN.{length}
 use lib.Dec.{eqb, ltb, leb}
 use Rattle.model.specs.Answers.{Outcome, result, refused}
 use Rattle.model.specs.Choice.{if_then_else_, firstFaulty, anyBelow}
-use Rattle.model.specs.Table.{Row, Table, rowStart, howManyRows, rowNumbered, countAt, rowIs, howManyEntries, stateAt, tableOf}
+use Rattle.model.specs.Table.{Row, Table, rowStart, howManyRows, rowNumbered, argCountAt, rowIs, howManyEntries, stateAt, tableOf}
 use Rattle.model.specs.Count.{count, total, longest}
 
 -- every one of the numbers is below n
@@ -21,7 +21,7 @@ isState states q = ltb q states
 
 -- "fewer than three entries left, or fewer arguments left than counted", where a row begins at the entry
 unfoldable pub cut : List ℕ → ℕ → Bool
-cut rows at = ltb (length rows - at) 3 || ltb (length rows - at - 3) (countAt rows at)
+cut rows at = ltb (length rows - at) 3 || ltb (length rows - at - 3) (argCountAt rows at)
 
 -- "a row beyond the 1,024th, or more than 16 arguments": row i with n arguments
 unfoldable pub tooMany : (i n : ℕ) → Bool
@@ -43,7 +43,7 @@ repeated rows i = anyBelow i (λ j. rowIs (rowNumbered rows j) (rowNumbered rows
 unfoldable pub rowGround : (states : ℕ) (rows : List ℕ) → ℕ → ℕ
 rowGround states rows i =
     if cut rows (rowStart rows i) then 2 else
-    if tooMany i (countAt rows (rowStart rows i)) then 3 else
+    if tooMany i (argCountAt rows (rowStart rows i)) then 3 else
     if outOfRange states (rowNumbered rows i) then 4 else
     if notBelow (rowNumbered rows i) then 5 else
     if repeated rows i then 6 else 0

@@ -5,7 +5,7 @@ use mathlib.Core.Logic.{_⊎_, _↔_}
 use mathlib.Core.List.{List}
 use lib.ListN.{length, getD}
 use Rattle.model.specs.Answers.{result, refused}
-use Rattle.model.specs.Table.{Row, countAt, rowStart, rowNumbered, howManyEntries, stateAt, tableOf}
+use Rattle.model.specs.Table.{Row, argCountAt, rowStart, rowNumbered, howManyEntries, stateAt, tableOf}
 use Rattle.model.specs.Count.{total}
 use Rattle.model.specs.Check.{checkOutcome}
 use Rattle.model.specs.Limits.{FirstBeyond, TotalBeyond}
@@ -13,16 +13,16 @@ use Rattle.model.specs.Limits.{FirstBeyond, TotalBeyond}
 -- ---- the grounds of a row
 
 -- there is a row i: one begins within the list, whole or cut
-abbrev pub Begins : (rows : List ℕ) (i : ℕ) → Type 0
-Begins rows i = rowStart rows i < length rows
+abbrev pub RowBegins : (rows : List ℕ) (i : ℕ) → Type 0
+RowBegins rows i = rowStart rows i < length rows
 
 -- "fewer than three entries left, or fewer arguments left than counted"
 abbrev pub RowCut : (rows : List ℕ) (i : ℕ) → Type 0
-RowCut rows i = (length rows < rowStart rows i + 3) ⊎ (length rows < rowStart rows i + 3 + countAt rows (rowStart rows i))
+RowCut rows i = (length rows < rowStart rows i + 3) ⊎ (length rows < rowStart rows i + 3 + argCountAt rows (rowStart rows i))
 
 -- "a row beyond the 1,024th, or more than 16 arguments": row 1,023 is the 1,024th
 abbrev pub RowTooMany : (rows : List ℕ) (i : ℕ) → Type 0
-RowTooMany rows i = (1024 ≤ i) ⊎ (16 < countAt rows (rowStart rows i))
+RowTooMany rows i = (1024 ≤ i) ⊎ (16 < argCountAt rows (rowStart rows i))
 
 -- an argument of the row has the property
 abbrev pub SomeArgument : Row → (ℕ → Type 0) → Type 0
@@ -61,12 +61,12 @@ pub record FaultlessRow (states : ℕ) (rows : List ℕ) (i : ℕ) : Type 0 wher
 
 -- "Then rows are taken in turn, and the first faulty row decides; its row number is the place."
 pub record FirstFaultyRow (states : ℕ) (rows : List ℕ) (number place : ℕ) : Type 0 where
-  pub begins : Begins rows place
+  pub begins : RowBegins rows place
   pub before : (i : ℕ) → i < place → FaultlessRow states rows i
   pub here : RowRefused states rows place number
 
 abbrev pub FaultlessRows : (states : ℕ) (rows : List ℕ) → Type 0
-FaultlessRows states rows = (i : ℕ) → Begins rows i → FaultlessRow states rows i
+FaultlessRows states rows = (i : ℕ) → RowBegins rows i → FaultlessRow states rows i
 
 -- ---- the ground of an accepting entry
 

@@ -12,7 +12,7 @@ use Rattle.model.specs.Reach.{Accepted}
 use Rattle.model.specs.Value.{treeNumber}
 use Rattle.model.specs.Order.{Exactly, ComeBefore}
 use Rattle.model.specs.Check.{checkOutcome, Passes}
-use Rattle.model.specs.Place.{NotAccepted}
+use Rattle.model.specs.Place.{UnacceptedAt}
 use Rattle.model.specs.Number.{numberOutcome}
 use Rattle.model.specs.Write.{writeOutcome, writeList}
 
@@ -77,7 +77,7 @@ module _ (states : ℕ) (rows accepting : List ℕ) where
     pub refuses : (entries : List ℕ) → Refusing (numberOutcome states rows accepting entries) ↔ (AcceptsList (tableOf states rows accepting) entries → ⊥)
     -- in that case the refusal is 14, and its place is the one that document 01 says
     pub places : (entries : List ℕ) (w : WellFormed entries) → length entries ≤ 4096 → (number place : ℕ)
-        → numberOutcome states rows accepting entries ≡ refused number place → (number ≡ 14) × NotAccepted (tableOf states rows accepting) (w .tree) place
+        → numberOutcome states rows accepting entries ≡ refused number place → (number ≡ 14) × UnacceptedAt (tableOf states rows accepting) (w .tree) place
     -- a number is written back as the entries of its tree
     pub writes : (n : ℕ) (h : HasTree (tableOf states rows accepting) n) → WritesEntries n (serial (h .tree))
     -- "A number not below the total is 15.", and the list stays as it is

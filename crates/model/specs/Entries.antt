@@ -34,14 +34,14 @@ endsTooSoon entries = eqb (length entries) 0 || ltb 0 (openAfter 0 entries)
 
 -- "For 13, each entry read opens a node, closes one, or is refused"; "for a list that ends too soon (an empty one too) the place is its
 -- length"; where it does not hold, what follows
-unfoldable pub formOr : List ℕ → Outcome → Outcome
-formOr entries otherwise =
+unfoldable pub formThen : List ℕ → Outcome → Outcome
+formThen entries otherwise =
     firstFaulty (length entries) (entryGround entries)
     (if endsTooSoon entries then refused 13 (length entries) else otherwise)
 
 -- "More than 4,096 entries is 12.", then 13
-unfoldable pub treeOr : List ℕ → Outcome → Outcome
-treeOr entries otherwise = if ltb 4096 (length entries) then refused 12 0 else formOr entries otherwise
+unfoldable pub treeThen : List ℕ → Outcome → Outcome
+treeThen entries otherwise = if ltb 4096 (length entries) then refused 12 0 else formThen entries otherwise
 
 -- Reading the tree of a list. The entries are taken from the last: a bar begins an empty level, and a symbol puts the trees of its level
 -- as its children before the trees of the level outside

@@ -100,7 +100,7 @@ lineGround names k =
 
 -- "A names list against the rules above is 17, the place being its first faulty line, or 0 if it is empty" (what the place is: the law
 -- `names-place`); where it keeps to the rules (the law `names-exactly`), what follows
-unfoldable pub namesOr : List ℕ → Outcome → Outcome
-namesOr names otherwise =
+unfoldable pub namesThen : List ℕ → Outcome → Outcome
+namesThen names otherwise =
     if eqb (length names) 0 then refused 17 0 else
     firstFaulty (howManyNames names) (lineGround names) otherwise

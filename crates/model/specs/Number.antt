@@ -12,7 +12,7 @@ use Rattle.model.specs.Reach.{targetOf, rowOf, stateOf, entryOf}
 use Rattle.model.specs.Count.{count}
 use Rattle.model.specs.Value.{numberOf}
 use Rattle.model.specs.Check.{isState, checkOutcome}
-use Rattle.model.specs.Entries.{treeOr, treeFrom}
+use Rattle.model.specs.Entries.{treeThen, treeFrom}
 
 -- "It first refuses as the check does.": the check's refusal, or what follows, with the total
 abbrev pub checkedThen : Outcome → (ℕ → Outcome) → Outcome
@@ -25,18 +25,18 @@ reachesNone T s children = not (isState (T .states) (targetOf T (rowOf T s child
 
 -- "Its place is the first bar that closes a subtree reaching no state": in trees whose first entry stands at the place. A node's bar comes
 -- after its children, and before the trees to its right
-unfoldable pub stuckOr : Table → Forest → (place : ℕ) → Outcome → Outcome
-stuckOr T empty place otherwise = otherwise
-stuckOr T (node s children right) place otherwise =
+unfoldable pub stuckThen : Table → Forest → (place : ℕ) → Outcome → Outcome
+stuckThen T empty place otherwise = otherwise
+stuckThen T (node s children right) place otherwise =
     let bar = suc place + length (serialForest children) in
-    stuckOr T children (suc place)
+    stuckThen T children (suc place)
     (if reachesNone T s children then refused 14 bar else
-    stuckOr T right (suc bar) otherwise)
+    stuckThen T right (suc bar) otherwise)
 
 -- "A tree that the table does not accept is 14."; "if the whole tree reaches a state that is not listed, it is the last bar"
-unfoldable pub acceptedOr : Table → Tree → Outcome → Outcome
-acceptedOr T t otherwise =
-    stuckOr T (only t) 0
+unfoldable pub acceptedThen : Table → Tree → Outcome → Outcome
+acceptedThen T t otherwise =
+    stuckThen T (only t) 0
     (if ltb (entryOf (T .accepting) (stateOf T t)) (length (T .accepting)) then otherwise else refused 14 (length (serial t) - 1))
 
 -- what numbering a tree of a table answers, where this is what the table's check answers
@@ -44,7 +44,7 @@ unfoldable pub numberTree : (checked : Outcome) → Table → (tree : List ℕ) 
 numberTree checked T tree =
     let t = treeFrom tree in
     -- "It first refuses as the check does. More than 4,096 entries is 12.", then 13, then 14
-    checkedThen checked (λ total. treeOr tree (acceptedOr T t (result (numberOf T (count T) t))))
+    checkedThen checked (λ total. treeThen tree (acceptedThen T t (result (numberOf T (count T) t))))
 
 -- what numbering a tree answers, for any count of states and any three lists: the table is lent with its rows in one list
 unfoldable pub numberOutcome : (states : ℕ) (rows accepting tree : List ℕ) → Outcome

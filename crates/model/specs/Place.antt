@@ -38,9 +38,9 @@ abbrev pub ReachesSome : Table → Tree → Type 0
 ReachesSome T t = (q : ℕ) × Reaches (T .rows) t q
 
 -- 14: what its place is in a tree that the table does not accept (the law `stuck-place`)
-pub data NotAccepted (T : Table) (t : Tree) (place : ℕ) : Type 0 where
+pub data UnacceptedAt (T : Table) (t : Tree) (place : ℕ) : Type 0 where
   -- "Its place is the first bar that closes a subtree reaching no state": this bar does, and each bar before it closes one that reaches a state
-  stuck : (u : Tree) → Closes (serial t) place u → ((q : ℕ) → Reaches (T .rows) u q → ⊥) → BarsClose (ReachesSome T) (serial t) place → NotAccepted T t place
+  stuck : (u : Tree) → Closes (serial t) place u → ((q : ℕ) → Reaches (T .rows) u q → ⊥) → BarsClose (ReachesSome T) (serial t) place → UnacceptedAt T t place
   -- "if the whole tree reaches a state that is not listed, it is the last bar"
   unlisted : BarsClose (ReachesSome T) (serial t) (length (serial t)) → (q : ℕ) → Reaches (T .rows) t q
-      → ((i : ℕ) → i < length (T .accepting) → getD (T .accepting) i 0 ≡ q → ⊥) → suc place ≡ length (serial t) → NotAccepted T t place
+      → ((i : ℕ) → i < length (T .accepting) → getD (T .accepting) i 0 ≡ q → ⊥) → suc place ≡ length (serial t) → UnacceptedAt T t place

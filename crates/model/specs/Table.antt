@@ -27,23 +27,23 @@ pack [] = []
 pack (r ∷ rs) = r .symbol ∷ r .target ∷ length (r .args) ∷ r .args ++ pack rs
 
 -- Reading such a list back. The row that begins at an entry: its argument count is the third entry, its arguments come after that
-abbrev pub countAt : List ℕ → ℕ → ℕ
-countAt entries at = getD entries (at + 2) 0
+abbrev pub argCountAt : List ℕ → ℕ → ℕ
+argCountAt entries at = getD entries (at + 2) 0
 
 abbrev pub argsAt : List ℕ → ℕ → List ℕ
-argsAt entries at = take (countAt entries at) (drop (at + 3) entries)
+argsAt entries at = take (argCountAt entries at) (drop (at + 3) entries)
 
 abbrev pub rowAt : List ℕ → ℕ → Row
 rowAt entries at = record { symbol = getD entries at 0; target = getD entries (at + 1) 0; args = argsAt entries at }
 
 -- a whole row begins at the entry: its head entries and its arguments are within the list
 abbrev pub Whole : List ℕ → ℕ → Type 0
-Whole entries at = at + 3 + countAt entries at ≤ length entries
+Whole entries at = at + 3 + argCountAt entries at ≤ length entries
 
 -- where a row begins: the first at the front, each other one after the row before it
 unfoldable pub rowStart : List ℕ → ℕ → ℕ
 rowStart entries zero = 0
-rowStart entries (suc i) = rowStart entries i + 3 + countAt entries (rowStart entries i)
+rowStart entries (suc i) = rowStart entries i + 3 + argCountAt entries (rowStart entries i)
 
 abbrev pub rowNumbered : List ℕ → ℕ → Row
 rowNumbered entries i = rowAt entries (rowStart entries i)

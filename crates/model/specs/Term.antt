@@ -53,22 +53,22 @@ pub record IsTerm (text : List ℕ) : Type 0 where
   pub names : AllNames (alone is)
   pub written : textOf is ≡ text
 
--- Reading a text byte by byte. So many brackets are open, and: a name is due; so many bytes of a name are read; a bracket has just been closed
-pub data Reading : Type 0 where
-  due : (depth : ℕ) → Reading
-  inName : (depth bytes : ℕ) → Reading
-  closed : (depth : ℕ) → Reading
+-- ScanState a text byte by byte. So many brackets are open, and: a name is due; so many bytes of a name are read; a bracket has just been closed
+pub data ScanState : Type 0 where
+  due : (depth : ℕ) → ScanState
+  inName : (depth bytes : ℕ) → ScanState
+  closed : (depth : ℕ) → ScanState
 
-pub data Step : Type 0 where
-  goesOn : Reading → Step
-  stops : Step
+pub data ScanStep : Type 0 where
+  goesOn : ScanState → ScanStep
+  stops : ScanStep
 
 -- after a whole term: `,` or `)` where a bracket is open
-abbrev pub afterTerm : (depth b : ℕ) → Step
+abbrev pub afterTerm : (depth b : ℕ) → ScanStep
 afterTerm zero b = stops
 afterTerm (suc depth) b = if eqb b 44 then goesOn (due (suc depth)) else if eqb b 41 then goesOn (closed depth) else stops
 
-unfoldable pub step : Reading → ℕ → Step
+unfoldable pub step : ScanState → ℕ → ScanStep
 step (due depth) b = if isLetter b then goesOn (inName depth 1) else stops
 step (inName depth bytes) b =
     if isNameByte b then (if ltb bytes 24 then goesOn (inName depth (suc bytes)) else stops) else
@@ -76,7 +76,7 @@ step (inName depth bytes) b =
 step (closed depth) b = afterTerm depth b
 
 -- the text may end here
-abbrev pub mayEnd : Reading → Bool
+abbrev pub mayEnd : ScanState → Bool
 mayEnd (due depth) = false
 mayEnd (inName depth bytes) = eqb depth 0
 mayEnd (closed depth) = eqb depth 0
@@ -86,22 +86,22 @@ pub data Scan : Type 0 where
   passes : Scan
   breaksAt : (place : ℕ) → Scan
 
-abbrev pub onward : (Reading → Scan) → Step → ℕ → Scan
+abbrev pub onward : (ScanState → Scan) → ScanStep → ℕ → Scan
 onward rest (goesOn r) place = rest r
 onward rest stops place = breaksAt place
 
-unfoldable pub scan : Reading → (place : ℕ) → List ℕ → Scan
+unfoldable pub scan : ScanState → (place : ℕ) → List ℕ → Scan
 scan r place [] = if mayEnd r then passes else breaksAt place
 scan r place (b ∷ bs) = onward (λ next. scan next (suc place) bs) (step r b) place
 
-abbrev pub breakOr : Scan → Outcome → Outcome
-breakOr passes otherwise = otherwise
-breakOr (breaksAt place) otherwise = refused 19 place
+abbrev pub breakThen : Scan → Outcome → Outcome
+breakThen passes otherwise = otherwise
+breakThen (breaksAt place) otherwise = refused 19 place
 
 -- "A text that is no term is 19, the place being the first byte with which no term can go on, or the text's length if it ends too soon" (the
 -- laws `scan-whole` and `scan-place` say that this is so); where it is a term, what follows
-unfoldable pub termOr : List ℕ → Outcome → Outcome
-termOr text otherwise = breakOr (scan (due 0) 0 text) otherwise
+unfoldable pub termThen : List ℕ → Outcome → Outcome
+termThen text otherwise = breakThen (scan (due 0) 0 text) otherwise
 
 -- the longest run of name bytes at the front
 unfoldable pub run : List ℕ → List ℕ
@@ -116,7 +116,7 @@ nameBegins text (suc i) = isNameByte (getD text (suc i) 0) && not (isNameByte (g
 abbrev pub nameAt : List ℕ → ℕ → List ℕ
 nameAt text i = run (drop i text)
 
--- Reading the term of a text. The bytes are taken from the last. What is seen: the name being read with the terms in its brackets, the
+-- ScanState the term of a text. The bytes are taken from the last. What is seen: the name being read with the terms in its brackets, the
 -- terms to its right, and for each bracket that is open the terms to the right of it
 pub record Seen : Type 0 where
   pub name : List ℕ

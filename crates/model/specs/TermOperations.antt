@@ -9,9 +9,9 @@ use lib.Dec.{ltb}
 use Rattle.model.specs.Answers.{Outcome, result, refused, lentAfter}
 use Rattle.model.specs.Choice.{if_then_else_, firstFaulty}
 use Rattle.model.specs.Tree.{Forest, Tree, empty, node, serial}
-use Rattle.model.specs.Names.{nameOf, symbolOf, isListed, howManyNames, namesOr}
-use Rattle.model.specs.Entries.{treeOr, treeFrom}
-use Rattle.model.specs.Term.{Terms, Term, none, term, textOf, termOr, nameBegins, nameAt, termFrom}
+use Rattle.model.specs.Names.{nameOf, symbolOf, isListed, howManyNames, namesThen}
+use Rattle.model.specs.Entries.{treeThen, treeFrom}
+use Rattle.model.specs.Term.{Terms, Term, none, term, textOf, termThen, nameBegins, nameAt, termFrom}
 
 -- each name's symbol
 unfoldable pub symbolsOf : (names : List ℕ) → Terms → Forest
@@ -51,11 +51,11 @@ abbrev pub readTermWithin : (limit : ℕ) (names text : List ℕ) (room : ℕ) �
 readTermWithin limit names text room =
     let needed = length (entriesOf names text) in
     -- "A names list against the rules above is 17"
-    namesOr names
+    namesThen names
     -- "A text above 65,536 bytes is 18."
     (if ltb 65536 (length text) then refused 18 0 else
     -- "A text that is no term is 19"
-    termOr text
+    termThen text
     (firstFaulty (length text) (nameGround names text)
     -- "A tree above 4,096 entries is 21."
     (if ltb limit needed then refused 21 0 else
@@ -75,8 +75,8 @@ unfoldable pub writeTermOutcome : (names tree : List ℕ) (room : ℕ) → Outco
 writeTermOutcome names tree room =
     let needed = length (bytesOf names tree) in
     -- "It refuses 17, then 12, then 13, as above."
-    namesOr names
-    (treeOr tree
+    namesThen names
+    (treeThen tree
     (firstFaulty (length tree) (symbolGround names tree)
     -- "A short lent list is 24, with the bytes needed."
     (if ltb room needed then refused 24 needed else result needed)))

@@ -8,7 +8,7 @@ use Rattle.model.specs.Answers.{refused, Lent}
 use Rattle.model.specs.Table.{tableOf}
 use Rattle.model.specs.Tree.{serial, WellFormed}
 use Rattle.model.specs.Check.{checkOutcome, Passes}
-use Rattle.model.specs.Place.{StopsAt, NotAccepted}
+use Rattle.model.specs.Place.{StopsAt, UnacceptedAt}
 use Rattle.model.specs.Number.{numberOutcome}
 use Rattle.model.specs.Write.{entriesFor, writeOutcome, writeList}
 use Rattle.model.specs.Demand3.{HasTree}
@@ -25,7 +25,7 @@ module _ (states : ℕ) (rows accepting : List ℕ) where
         → NumberRefused tree number place
     -- "A tree that the table does not accept is 14."
     number14 : number ≡ 14 → (total : ℕ) → Passes states rows accepting total → length tree ≤ 4096 → (w : WellFormed tree)
-        → NotAccepted (tableOf states rows accepting) (w .tree) place → NumberRefused tree number place
+        → UnacceptedAt (tableOf states rows accepting) (w .tree) place → NumberRefused tree number place
 
   -- why writing the tree of a number into a list of so many entries is refused
   pub data TreeRefused (n room number place : ℕ) : Type 0 where

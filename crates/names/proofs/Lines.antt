@@ -11,7 +11,7 @@ use lib.Dec.{eqb, ltb, leb}
 use borrow.Author.Tests.{eqb-true, ltb-true, lt-ltb, le-ltb, ltb-false, le-leb, lt-leb, eq-eqb, ne-eqb}
 use Rattle.model.specs.Answers.{Outcome, refused}
 use Rattle.model.specs.Choice.{if_then_else_, anyBelow}
-use Rattle.model.specs.Names.{isLetter, isNameByte, allNameBytes, isName, sameName, Line, joined, linesOf, noLine, lineAt, howManyNames, lineWith, symbolOf, isListed, lineGround, namesOr}
+use Rattle.model.specs.Names.{isLetter, isNameByte, allNameBytes, isName, sameName, Line, joined, linesOf, noLine, lineAt, howManyNames, lineWith, symbolOf, isListed, lineGround, namesThen}
 use Rattle.model.specs.Term.{run}
 use Rattle.model.proofs.Choice.{and-true, no-fault, fault-refused, none-more, any-none, any-true, is-false, not-both}
 use Rattle.model.proofs.Bytes.{letter-byte, byte-not-ten, end-no-byte, name-bytes, IsName, name-parts, name-made, byte-first, byte-others}
@@ -22,8 +22,8 @@ use Rattle.chains.proofs.First.{first-none, first-is, apart}
 use Rattle.chains.proofs.Chains.{chained, chains-begin}
 use Rattle.model.proofs.Lists.{drop-next}
 use Rattle.names.proofs.Bytes.{run-more}
-use Rattle.names.specs.Listed.{nameEnd, nameFound, hashOf, bucketOf, Stands, Known, Started, Answered}
-use Rattle.names.specs.declared.Names.the-variants.{Faulty, Sound as NamesSound}
+use Rattle.names.specs.NamesIndex.{nameEnd, nameFound, hashOf, bucketOf, Stands, NamesIndexed, Started, NamesAnswer}
+use Rattle.names.specs.declared.NamesCheck.the-variants.{Faulty, Sound as NamesSound}
 
 too-long : (n : List ℕ) → isName n ≡ true → 24 < length n → ⊥
 too-long n e l = let p = name-parts n e in omega (arith, p .short, ap length (p .is))
@@ -168,7 +168,7 @@ found-none names n name e k l = is-false (sameName (lineAt names k .bytes) name)
 
 -- the first n lines are without fault, and the next one begins at `at`
 pub record Sofar (names starts heads next : List ℕ) (n at : ℕ) : Type 0 where
-  pub known : Known names starts heads next n
+  pub known : NamesIndexed names starts heads next n
   pub at-is : getD starts n 0 ≡ at
   pub within : at ≤ length names
   pub small : at ≤ 25 * n
@@ -202,8 +202,8 @@ module _ {names starts heads next : List ℕ} {n at : ℕ} (s : Sofar names star
   here = ap (λ (i : ℕ). lineAt names i) (let e : n ≡ n + 0 = omega arith in e) ∙ s .lines 0
 
   -- line n is the first faulty one
-  faulty : lineGround names n ≡ 17 → (o : Outcome) → refused 17 n ≡ namesOr names o
-  unfolding namesOr
+  faulty : lineGround names n ≡ 17 → (o : Outcome) → refused 17 n ≡ namesThen names o
+  unfolding namesThen
   faulty g o =
       let none : eqb (length names) 0 ≡ false = ne-eqb (length names) 0 (λ e. omega arith) in
       rw none (fault-refused (howManyNames names) n 17 (lineGround names) o some-left (s .sound) g (omega arith))
@@ -213,10 +213,10 @@ module _ {names starts heads next : List ℕ} {n at : ℕ} (s : Sofar names star
   unfolding lineGround
   ground a b c d p q r t = rw (p, q, r, t)
 
-  pub too-many : 255 ≤ n → (o : Outcome) → refused 17 n ≡ namesOr names o
+  pub too-many : 255 ≤ n → (o : Outcome) → refused 17 n ≡ namesThen names o
   too-many h = faulty (rw (or-true) at (ground _ _ true _ refl refl (le-leb 255 n h) refl))
 
-  pub no-name : nameEnd names at ≡ Nothing → (o : Outcome) → refused 17 n ≡ namesOr names o
+  pub no-name : nameEnd names at ≡ Nothing → (o : Outcome) → refused 17 n ≡ namesThen names o
   unfolding nameEnd
   no-name e = faulty (go (isName (lineAt names n .bytes)) (lineAt names n .ended) refl refl e′)
     where
@@ -282,7 +282,7 @@ module _ {names starts heads next : List ℕ} {n at : ℕ} (s : Sofar names star
     part-is = ap (λ (x : List ℕ). take (end - at) x) spot ∙ take-at (lineAt names n .bytes) (10 ∷ split .rest) (end - at) (omega (arith, end-is))
 
     -- the name stands on an earlier line
-    pub again : (k : ℕ) → nameFound names n (take (end - at) (drop at names)) ≡ At k → (o : Outcome) → refused 17 n ≡ namesOr names o
+    pub again : (k : ℕ) → nameFound names n (take (end - at) (drop at names)) ≡ At k → (o : Outcome) → refused 17 n ≡ namesThen names o
     again k f =
         let g = first-is (λ j. sameName (lineAt names j .bytes) (lineAt names n .bytes)) n k (rw (part-is) at f) in
         faulty (rw (or-true) at (ground _ true _ _ refl (any-true n k (λ j. sameName (lineAt names j .bytes) (lineAt names n .bytes)) (g .0) (g .1)) refl refl))
@@ -335,12 +335,12 @@ module _ {names starts heads next : List ℕ} {n at : ℕ} (s : Sofar names star
   unfolding linesOf
   all-taken = let a = ap length (ap (λ (x : List ℕ). linesOf x) (drop-of-length-le names {i = at} ge)) in omega (arith, s .left)
 
-  pub no-lines-at-all : n ≡ 0 → (o : Outcome) → refused 17 0 ≡ namesOr names o
-  unfolding namesOr
+  pub no-lines-at-all : n ≡ 0 → (o : Outcome) → refused 17 0 ≡ namesThen names o
+  unfolding namesThen
   no-lines-at-all z o = rw (eq-eqb (length names) 0 (omega (arith, s .small)))
 
-  pub all-sound : (n ≡ 0 → ⊥) → (o : Outcome) → o ≡ namesOr names o
-  unfolding namesOr
+  pub all-sound : (n ≡ 0 → ⊥) → (o : Outcome) → o ≡ namesThen names o
+  unfolding namesThen
   all-sound nz o =
       let some : eqb (length names) 0 ≡ false = ne-eqb (length names) 0 (no-lines names (omega (arith, all-taken, pos-of-ne-zero nz))) in
       rw some (sym (no-fault (howManyNames names) (lineGround names) o (λ k l. s .sound k (omega (arith, all-taken)))))
@@ -361,7 +361,7 @@ pub name-bucket : (names name : List ℕ) (b : ℕ) → b ≡ hashOf name → (k
 name-bucket names name b e k t = ap (λ (x : List ℕ). hashOf x) (same-is (lineAt names k .bytes) name t) ∙ sym e
 
 -- no earlier line has the name
-pub no-earlier : {names starts heads next : List ℕ} {n : ℕ} → Known names starts heads next n → (name : List ℕ) (p : ℕ) → p < n → sought names name p ≡ true
+pub no-earlier : {names starts heads next : List ℕ} {n : ℕ} → NamesIndexed names starts heads next n → (name : List ℕ) (p : ℕ) → p < n → sought names name p ≡ true
     → (k : ℕ) → k < p → sought names name k ≡ true → ⊥
 no-earlier {names} x name p l t k m u =
     not-both (sameName (lineAt names k .bytes) (lineAt names p .bytes))
@@ -385,14 +385,14 @@ not-found-listed names name n e f =
 -- ---- the answer
 
 -- a faulty line, and what follows from 'the list keeps to the rules'
-pub faulty-line : {names starts heads next : List ℕ} (k : ℕ) → ((o : Outcome) → refused 17 k ≡ namesOr names o) → Answered names starts heads next (Faulty k)
+pub faulty-line : {names starts heads next : List ℕ} (k : ℕ) → ((o : Outcome) → refused 17 k ≡ namesThen names o) → NamesAnswer names starts heads next (Faulty k)
 faulty-line k d = record { decided = d; count = λ n h. never h; known = λ n h. never h }
   where
     never : {A : Type 0} {n : ℕ} → Faulty k ≡ NamesSound n → A
     never h = let z : _≡_ {A = ℕ} 0 1 = cc in absurd (omega arith)
 
 pub sound-list : {names starts heads next : List ℕ} {n at : ℕ} → Sofar names starts heads next n at → length names ≤ at → (n ≡ 0 → ⊥)
-    → Answered names starts heads next (NamesSound n)
+    → NamesAnswer names starts heads next (NamesSound n)
 sound-list {names} {starts} {heads} {next} {n} s ge nz = record {
   decided = all-sound s ge nz;
   count = λ m h. sym (same h) ∙ all-taken s ge;

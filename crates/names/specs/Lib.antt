@@ -1,2 +1,2 @@
 -- What the check of a names list and the search for a name promise.
-pub mod Listed
+pub mod NamesIndex

@@ -7,10 +7,10 @@ ghost use lib.ListN.{length, drop};
 ghost use Rattle.model.specs.Names.{isLetter, isNameByte, sameName, lineAt};
 ghost use Rattle.model.specs.Term.{run};
 ghost use Rattle.chains.specs.Chains.{Clear};
-ghost use Rattle.names.specs.Listed.{nameEnd, hashOf, nameFound, Lined, Known, Started, Answered};
+ghost use Rattle.names.specs.NamesIndex.{nameEnd, hashOf, nameFound, Lined, NamesIndexed, Started, NamesAnswer};
 
 // The list keeps to the rules, with so many names; or a line is the first faulty one.
-pub enum Names {
+pub enum NamesCheck {
     Sound(usize),
     Faulty(usize),
 }
@@ -133,7 +133,7 @@ fn find_in(
     b: usize,
     name: &[u8],
 ) -> Found
-    requires { ⌜ Known (now names) (now starts) (now heads) (now next) n ⌝ }
+    requires { ⌜ NamesIndexed (now names) (now starts) (now heads) (now next) n ⌝ }
     requires { ⌜ (b ≡ hashOf (now name)) × (b < 512) ⌝ }
     ensures { λ r. ⌜ r ≡ nameFound (now (names .entry)) n (now (name .entry)) ⌝ }
 {
@@ -157,7 +157,7 @@ pub fn find_name(
     n: usize,
     name: &[u8],
 ) -> Found
-    requires { ⌜ Known (now names) (now starts) (now heads) (now next) n ⌝ }
+    requires { ⌜ NamesIndexed (now names) (now starts) (now heads) (now next) n ⌝ }
     ensures { λ r. ⌜ r ≡ nameFound (now (names .entry)) n (now (name .entry)) ⌝ }
 {
     find_in(names, starts, heads, next, n, hash(name), name)
@@ -169,27 +169,27 @@ pub fn check_names(
     starts: &mut [u16; 256],
     heads: &mut [u16; 512],
     next: &mut [u16; 256],
-) -> Names
+) -> NamesCheck
     requires { ⌜ Started (now starts) ⌝ }
     requires { ⌜ Clear 512 256 (now heads) (now next) ⌝ }
-    ensures { λ r. ⌜ Answered (now (names .entry)) (now (starts .exit)) (now (heads .exit)) (now (next .exit)) r ⌝ }
+    ensures { λ r. ⌜ NamesAnswer (now (names .entry)) (now (starts .exit)) (now (heads .exit)) (now (next .exit)) r ⌝ }
 {
     let mut n: usize = 0;
     let mut at: usize = 0;
     while at < names.len() {
         if 255 <= n {
-            return Names::Faulty(n);
+            return NamesCheck::Faulty(n);
         }
         match name_end(names, at) {
             Found::Nothing => {
-                return Names::Faulty(n);
+                return NamesCheck::Faulty(n);
             }
             Found::At(end) => {
                 let name = &names[at..end];
                 let b = hash(name);
                 match find_in(names, &*starts, &*heads, &*next, n, b, name) {
                     Found::At(_) => {
-                        return Names::Faulty(n);
+                        return NamesCheck::Faulty(n);
                     }
                     Found::Nothing => {
                         next[n] = heads[b];
@@ -203,7 +203,7 @@ pub fn check_names(
         }
     }
     if n == 0 {
-        return Names::Faulty(0);
+        return NamesCheck::Faulty(0);
     }
-    Names::Sound(n)
+    NamesCheck::Sound(n)
 }

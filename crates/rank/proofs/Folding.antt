@@ -18,7 +18,7 @@ use Rattle.index.specs.Index.{rowFound}
 use Rattle.counts.specs.States.{held}
 use Rattle.rank.specs.declared.Node.the-variants.{Reaches, Stuck}
 use Rattle.rank.specs.Machine.{nodeOf}
-use Rattle.rank.specs.Ready.{Valued, Foldable, Closable}
+use Rattle.rank.specs.RankReady.{ValuesFit, Foldable, Closable}
 
 -- ---- Horner's way, child by child
 
@@ -33,7 +33,7 @@ below-drop zero b = b
 below-drop (suc i) none-below = none-below
 below-drop (suc i) (also-below l b) = below-drop i b
 
-pub valued-below : {cs xs vs : List ℕ} → Valued cs xs vs → ValuesBelow (held cs) xs vs
+pub valued-below : {cs xs vs : List ℕ} → ValuesFit cs xs vs → ValuesBelow (held cs) xs vs
 valued-below {cs} {xs} {vs} v = below-each (held cs) xs vs (v .many) (v .below)
 
 -- what is found so far is no more than what is found in the end

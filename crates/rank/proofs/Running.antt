@@ -21,7 +21,7 @@ use Rattle.model.proofs.Choice.{or-false}
 use Rattle.model.proofs.Lists.{drop-next}
 use Rattle.model.proofs.Rows.{rowIs-true}
 use Rattle.model.proofs.Values.{horner-less}
-use Rattle.model.proofs.Entries.{well-formed, open-bound, tree-or-taken}
+use Rattle.model.proofs.Entries.{well-formed, open-bound, tree-then-taken}
 use Rattle.chains.specs.declared.Found.{Found}
 use Rattle.chains.specs.declared.Found.the-variants.{At, Nothing}
 use Rattle.chains.proofs.First.{first-is}
@@ -35,7 +35,7 @@ use Rattle.tree.proofs.Laws.{Read, opens-by, closes-by, opened, shut, refused-h
 use Rattle.rank.specs.declared.Node.{Node}
 use Rattle.rank.specs.declared.Node.the-variants.{Reaches, Stuck}
 use Rattle.rank.specs.Machine.{nodeBy, nodeOf, numbered, run, machine}
-use Rattle.rank.specs.Ready.{Valued, Closable, Summable, Ready}
+use Rattle.rank.specs.RankReady.{ValuesFit, Closable, Summable, RankReady}
 use Rattle.rank.proofs.Folding.{valued-below}
 
 -- ---- an array as a stack
@@ -116,7 +116,7 @@ by-row : (f : Found) (rows cs sums xs vs : List ℕ) (q v : ℕ) → nodeBy f ro
 by-row (At k) rows cs sums xs vs q v e = (k, refl, cc, cc)
 by-row Nothing rows cs sums xs vs q v e = let z : _≡_ {A = ℕ} 0 1 = cc in absurd (omega arith)
 
-module _ {rows accepting offsets heads next cs sums : List ℕ} {n : ℕ} (ready : Ready rows accepting offsets heads next cs sums n) (s : ℕ) (xs : List ℕ) where
+module _ {rows accepting offsets heads next cs sums : List ℕ} {n : ℕ} (ready : RankReady rows accepting offsets heads next cs sums n) (s : ℕ) (xs : List ℕ) where
   -- the row that is found counts, with the rows before it, at most what its target counts
   found-fits : (k : ℕ) → rowFound rows n s xs ≡ At k → (k < n) × (product (map (held cs) xs) + getD sums k 0 ≤ held cs (target rows k))
   found-fits k e =
@@ -124,11 +124,11 @@ module _ {rows accepting offsets heads next cs sums : List ℕ} {n : ℕ} (ready
       let a : rowNumbered rows k .args ≡ xs = rowIs-true (rowNumbered rows k) s xs (f .1) .1 in
       (f .0, rw a at (ready .shares k (f .0)))
 
-  closes-within : (vs : List ℕ) → Valued cs xs vs → Closable rows n cs sums s xs vs
+  closes-within : (vs : List ℕ) → ValuesFit cs xs vs → Closable rows n cs sums s xs vs
   closes-within vs v = record { valued = v; small = λ k e. let f = found-fits k e in omega (arith, f .1, ready .small k (f .0)) }
 
   -- the state has a place, and the value is below its count
-  node-below : (vs : List ℕ) → Valued cs xs vs → (q v : ℕ) → nodeOf rows n cs sums s xs vs ≡ Reaches q v → (q < 256) × (v < held cs q)
+  node-below : (vs : List ℕ) → ValuesFit cs xs vs → (q v : ℕ) → nodeOf rows n cs sums s xs vs ≡ Reaches q v → (q < 256) × (v < held cs q)
   unfolding nodeOf
   node-below vs b q v e =
       let r = by-row (rowFound rows n s xs) rows cs sums xs vs q v e in
@@ -256,7 +256,7 @@ module _ {rows accepting cs sums tree : List ℕ} {n : ℕ} {opens begins waitin
       close-room = omega (arith, close-under, deeper, r .room, r .reads .within, r .reads .few)
 
       -- the children's states and values
-      children : Valued cs (take (w - b) (drop b waiting)) (take (w - b) (drop b values))
+      children : ValuesFit cs (take (w - b) (drop b waiting)) (take (w - b) (drop b values))
       children =
           let len-w : length (take (w - b) (drop b waiting)) ≡ w - b = length-take-le (w - b) (drop b waiting) (rw (length-drop b waiting) (omega (arith, few-wait, close-under, r .waiting-long))) in
           let len-v : length (take (w - b) (drop b values)) ≡ w - b = length-take-le (w - b) (drop b values) (rw (length-drop b values) (omega (arith, few-wait, close-under, r .values-long))) in
@@ -268,7 +268,7 @@ module _ {rows accepting cs sums tree : List ℕ} {n : ℕ} {opens begins waitin
             below = λ k lt. let lk : k < w - b = rw len-w at lt in rw (at-w k lk, at-v k lk) (r .below (b + k) (omega arith));
           }
 
-      pub close-fits : {offsets heads next : List ℕ} → Ready rows accepting offsets heads next cs sums n
+      pub close-fits : {offsets heads next : List ℕ} → RankReady rows accepting offsets heads next cs sums n
           → Closable rows n cs sums (getD opens (t .depth) 0) (take (w - b) (drop b waiting)) (take (w - b) (drop b values))
       close-fits ready = closes-within ready (getD opens (t .depth) 0) (take (w - b) (drop b waiting)) (take (w - b) (drop b values)) children
 
@@ -292,7 +292,7 @@ module _ {rows accepting cs sums tree : List ℕ} {n : ℕ} {opens begins waitin
       front : (xs : List ℕ) (x : ℕ) → length xs ≡ 2048 → take (b + 1) (set xs b x) ≡ take b (take w xs) ++ (x ∷ [])
       front xs x full = rw (add-one b, take-suc-set xs b x (omega (arith, close-room)), take-take b w xs close-under)
 
-      pub node-closes : {offsets heads next : List ℕ} → Ready rows accepting offsets heads next cs sums n → (q v : ℕ)
+      pub node-closes : {offsets heads next : List ℕ} → RankReady rows accepting offsets heads next cs sums n → (q v : ℕ)
           → nodeOf rows n cs sums (getD opens (t .depth) 0) (take (w - b) (drop b waiting)) (take (w - b) (drop b values)) ≡ Reaches q v
           → Running rows accepting cs sums tree n opens begins (set waiting b q) (set values b v) (b + 1) t (i + 1)
       node-closes ready q v h =
@@ -325,7 +325,7 @@ module _ {rows accepting cs sums tree : List ℕ} {n : ℕ} {opens begins waitin
     -- no entry of a tree is refused
     pub not-refused : stepOf s (getD tree i 0) ≡ Refuses → WellFormed tree → refused 13 i ≡ machine rows n accepting cs sums tree
     not-refused e well =
-        let z : refused 13 i ≡ result 0 = refused-here (r .reads) l e (result 0) ∙ tree-or-taken tree well (r .reads .few) (result 0) in
+        let z : refused 13 i ≡ result 0 = refused-here (r .reads) l e (result 0) ∙ tree-then-taken tree well (r .reads .few) (result 0) in
         let y : _≡_ {A = ℕ} 0 1 = cc in
         absurd (omega arith)
 
@@ -343,7 +343,7 @@ module _ {rows accepting cs sums tree : List ℕ} {n : ℕ} {opens begins waitin
         let d : s .depth ≡ openAfter 0 tree = r .reads .depth-is ∙ ap (openAfter 0) (take-all i tree g) in
         omega (arith, r .some some-read, ltb-false 0 (openAfter 0 tree) (ends .1))
 
-    pub end-sums : {offsets heads next : List ℕ} → Ready rows accepting offsets heads next cs sums n → Summable accepting cs (getD waiting 0 0) (getD values 0 0)
+    pub end-sums : {offsets heads next : List ℕ} → RankReady rows accepting offsets heads next cs sums n → Summable accepting cs (getD waiting 0 0) (getD values 0 0)
     end-sums ready = record { below = r .below 0 one-waits; placed = ready .placed; small = ready .total }
 
     pub tree-ends : numbered accepting cs (getD waiting 0 0) (getD values 0 0) (i - 1) ≡ machine rows n accepting cs sums tree

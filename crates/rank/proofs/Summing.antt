@@ -19,7 +19,7 @@ use Rattle.model.proofs.Counting.{sum-take-suc, sum-take-le, getD-map}
 use Rattle.model.proofs.States.{entryOf-is, entryOf-first}
 use Rattle.counts.specs.States.{held}
 use Rattle.rank.specs.Machine.{numbered}
-use Rattle.rank.specs.Ready.{Summable}
+use Rattle.rank.specs.RankReady.{Summable}
 
 -- the first i entries are not the state q, and their counts are added up
 pub record Summing (accepting cs : List ℕ) (q earlier i : ℕ) : Type 0 where

@@ -15,8 +15,8 @@ use Rattle.model.specs.Reach.{rowWith, targetOf}
 use Rattle.model.specs.Count.{product, weight, stateCounts, count, total}
 use Rattle.model.specs.Value.{horner, earlierRows, rowValue, numberOf}
 use Rattle.model.specs.Check.{checkOutcome, countLimit, Passes}
-use Rattle.model.specs.Entries.{treeOr, treeFrom}
-use Rattle.model.specs.Number.{checkedThen, acceptedOr, numberTree, numberOutcome}
+use Rattle.model.specs.Entries.{treeThen, treeFrom}
+use Rattle.model.specs.Number.{checkedThen, acceptedThen, numberTree, numberOutcome}
 use Rattle.model.proofs.Choice.{is-false}
 use Rattle.model.proofs.Good.{AllBelow, below-first, below-rest, Good, Within}
 use Rattle.model.proofs.Counting.{map-below, sum-place, weight-at, count-eqn, total-is}
@@ -42,7 +42,7 @@ use Rattle.tree.specs.Reading.{Decides}
 use Rattle.tree.proofs.Laws.{list-refused, list-taken, list-well}
 use Rattle.rank.specs.declared.Node.the-variants.{Reaches}
 use Rattle.rank.specs.Machine.{nodeBy, nodeOf, numbered, machine}
-use Rattle.rank.specs.Ready.{Ready}
+use Rattle.rank.specs.RankReady.{RankReady}
 use Rattle.rank.proofs.Trees.{rowNode, rowNumber, node-yes, node-no, run-tree}
 
 -- Horner's way looks only at the counts of the states at hand
@@ -84,7 +84,7 @@ module _ (accepting : List ℕ) {states : ℕ} {rows offsets heads next first af
   earlier : (k : ℕ) → k < n → getD sums k 0 ≡ earlierRows (rowsOf rows) (count T) (target rows k) k
   earlier k l = p .known .earlier k (rw (← (p .all)) l) (row-fits T (good .sound) (row-is k l)) ∙ earlier-same states rows accepting (target rows k) k
 
-  pub ready : Ready rows accepting offsets heads next cs sums n
+  pub ready : RankReady rows accepting offsets heads next cs sums n
   ready = record {
     laid = p .laid;
     index = p .index;
@@ -137,11 +137,11 @@ module _ (accepting : List ℕ) {states : ℕ} {rows offsets heads next first af
 
   -- the machine numbers the tree
   pub machine-numbers : (tree : List ℕ) → WellFormed tree
-      → machine rows n accepting cs sums tree ≡ acceptedOr T (treeFrom tree) (result (numberOf T (count T) (treeFrom tree)))
+      → machine rows n accepting cs sums tree ≡ acceptedThen T (treeFrom tree) (result (numberOf T (count T) (treeFrom tree)))
   machine-numbers tree w =
       ap (machine rows n accepting cs sums) (sym (w .written))
       ∙ run-tree T (count T) (nodeOf rows n cs sums) (numbered accepting cs) node-agrees end-agrees (w .tree) (w .symbols)
-      ∙ ap (λ (t : Tree). acceptedOr T t (result (numberOf T (count T) t))) (sym (tree-from tree w))
+      ∙ ap (λ (t : Tree). acceptedThen T t (result (numberOf T (count T) t))) (sym (tree-from tree w))
 
 -- ---- the answers
 
@@ -160,7 +160,7 @@ module _ (accepting tree : List ℕ) {states : ℕ} {rows offsets heads next fir
     passes : Passes states rows accepting t
     passes = sym (a .answer) ∙ ap told e
 
-    pub number-ready : Ready rows accepting offsets heads next cs sums n
+    pub number-ready : RankReady rows accepting offsets heads next cs sums n
     number-ready = ready accepting (a .prepared t n e) passes
 
     pub tree-refused : {f : Form} → Decides tree f → (r : Refusal) → f ≡ RefusesList r → refusedBy r ≡ numberOutcome states rows accepting tree
@@ -172,5 +172,5 @@ module _ (accepting tree : List ℕ) {states : ℕ} {rows offsets heads next fir
     tree-numbered d h =
         machine-numbers accepting (a .prepared t n e) passes tree (list-well d h .0)
         ∙ list-taken d h _
-        ∙ then-same (λ m. treeOr tree (acceptedOr (tableOf states rows accepting) (treeFrom tree) (result (numberOf (tableOf states rows accepting) (count (tableOf states rows accepting)) (treeFrom tree))))) (result t)
+        ∙ then-same (λ m. treeThen tree (acceptedThen (tableOf states rows accepting) (treeFrom tree) (result (numberOf (tableOf states rows accepting) (count (tableOf states rows accepting)) (treeFrom tree))))) (result t)
         (checkOutcome states rows accepting) (sym passes)

@@ -17,7 +17,7 @@ use Rattle.model.specs.Reach.{rowWith, targetOf, statesOf, rowOf, stateOf, entr
 use Rattle.model.specs.Count.{sum}
 use Rattle.model.specs.Value.{rowValue, valuesOf, valueOf, numberOf}
 use Rattle.model.specs.Check.{isState}
-use Rattle.model.specs.Number.{reachesNone, stuckOr, acceptedOr}
+use Rattle.model.specs.Number.{reachesNone, stuckThen, acceptedThen}
 use Rattle.model.proofs.Longest.{forest-length}
 use Rattle.rank.specs.declared.Node.{Node}
 use Rattle.rank.specs.declared.Node.the-variants.{Reaches, Stuck}
@@ -66,8 +66,8 @@ module _ (T : Table) (c : ℕ → ℕ) (nodes : ℕ → List ℕ → List ℕ �
   -- the trees of a forest, one after another
   pub run-forest : (f : Forest) → SymbolsInRange f → (opens begins ws vs : List ℕ) → length vs ≡ length ws → (p : ℕ) (es : List ℕ)
       → run nodes end opens begins ws vs p (serialForest f ++ es)
-      ≡ stuckOr T f p (run nodes end opens begins (ws ++ statesOf T f) (vs ++ valuesOf T c f) (p + length (serialForest f)) es)
-  unfolding SymbolsInRange serialForest stuckOr statesOf valuesOf
+      ≡ stuckThen T f p (run nodes end opens begins (ws ++ statesOf T f) (vs ++ valuesOf T c f) (p + length (serialForest f)) es)
+  unfolding SymbolsInRange serialForest stuckThen statesOf valuesOf
   run-forest empty h opens begins ws vs m p es = let z : p + 0 ≡ p = omega arith in rw (append-nil ws, append-nil vs, z)
   run-forest (node s k r) h opens begins ws vs m p es =
       let bar = suc p + length (serialForest k) in
@@ -81,7 +81,7 @@ module _ (T : Table) (c : ℕ → ℕ) (nodes : ℕ → List ℕ → List ℕ �
       ∙ ap (λ (l : List ℕ). run nodes end (s ∷ opens) (length ws ∷ begins) ws vs (p + 1) l) (append-assoc (serialForest k) (0 ∷ serialForest r) es)
       ∙ ap (λ (i : ℕ). run nodes end (s ∷ opens) (length ws ∷ begins) ws vs i (serialForest k ++ 0 ∷ (serialForest r ++ es))) (add-one p)
       ∙ run-forest k (h .2) (s ∷ opens) (length ws ∷ begins) ws vs m (suc p) (0 ∷ (serialForest r ++ es))
-      ∙ ap (stuckOr T k (suc p)) (bar-closes s k opens begins ws vs m bar (serialForest r ++ es) _ (rw (append-assoc ws (q ∷ []) (statesOf T r), append-assoc vs (v ∷ []) (valuesOf T c r), place) at right))
+      ∙ ap (stuckThen T k (suc p)) (bar-closes s k opens begins ws vs m bar (serialForest r ++ es) _ (rw (append-assoc ws (q ∷ []) (statesOf T r), append-assoc vs (v ∷ []) (valuesOf T c r), place) at right))
 
   -- at the end of a tree
   tree-end : (t : Tree) (p : ℕ) → p ≡ length (serial t) - 1
@@ -91,10 +91,10 @@ module _ (T : Table) (c : ℕ → ℕ) (nodes : ℕ → List ℕ → List ℕ �
   tree-end t p e = last (stateOf T t) (valueOf T c t) p ∙ rw e
 
   -- a tree
-  pub run-tree : (t : Tree) → SymbolsInRange (only t) → run nodes end [] [] [] [] 0 (serial t) ≡ acceptedOr T t (result (numberOf T c t))
-  unfolding serial acceptedOr
+  pub run-tree : (t : Tree) → SymbolsInRange (only t) → run nodes end [] [] [] [] 0 (serial t) ≡ acceptedThen T t (result (numberOf T c t))
+  unfolding serial acceptedThen
   run-tree t h =
       let z : 0 + length (serialForest (only t)) - 1 ≡ length (serialForest (only t)) - 1 = omega arith in
       ap (run nodes end [] [] [] [] 0) (sym (append-nil (serialForest (only t))))
       ∙ run-forest (only t) h [] [] [] [] refl 0 []
-      ∙ ap (stuckOr T (only t) 0) (run-end nodes end [] [] (statesOf T (only t)) (valuesOf T c (only t)) (0 + length (serialForest (only t))) ∙ tree-end t _ z)
+      ∙ ap (stuckThen T (only t) 0) (run-end nodes end [] [] (statesOf T (only t)) (valuesOf T c (only t)) (0 + length (serialForest (only t))) ∙ tree-end t _ z)

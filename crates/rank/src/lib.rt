@@ -18,7 +18,7 @@ ghost use Rattle.rows.specs.Laid.{Laid};
 ghost use Rattle.index.specs.Index.{Index};
 ghost use Rattle.counts.specs.States.{held};
 ghost use Rattle.rank.specs.Machine.{nodeOf, numbered, machine};
-ghost use Rattle.rank.specs.Ready.{Foldable, Closable, Summable, Ready};
+ghost use Rattle.rank.specs.RankReady.{Foldable, Closable, Summable, RankReady};
 
 // What closing a node gives: the state that the tree reaches and its value there; or that it reaches none.
 enum Node {
@@ -98,7 +98,7 @@ fn number_tree(
     sums: &[u64; 1024],
     n: usize,
 ) -> Answer
-    requires { ⌜ Ready (now rows) (now accepting) (now offsets) (now heads) (now next) (now counts) (now sums) n ⌝ }
+    requires { ⌜ RankReady (now rows) (now accepting) (now offsets) (now heads) (now next) (now counts) (now sums) n ⌝ }
     requires { ⌜ WellFormed (now tree) × (length (now tree) ≤ 4096) ⌝ }
     ensures { λ r. ⌜ outcome r ≡ machine (now (rows .entry)) n (now (accepting .entry)) (now (counts .entry)) (now (sums .entry)) (now (tree .entry)) ⌝ }
 {

@@ -13,7 +13,7 @@ use Rattle.model.specs.declared.Kind.{Kind}
 use Rattle.model.specs.declared.Kind.the-variants.{CutRow, TooManyRowsOrArguments, NotInRange, ArgumentNotBelowTarget}
 use Rattle.model.specs.Answers.{kindNumber}
 use Rattle.model.specs.Choice.{if_then_else_}
-use Rattle.model.specs.Table.{rowAt, rowStart, countAt, argsAt, Whole}
+use Rattle.model.specs.Table.{rowAt, rowStart, argCountAt, argsAt, Whole}
 use Rattle.model.specs.Check.{allBelow, cut, tooMany, outOfRange, notBelow}
 use Rattle.model.proofs.Lists.{drop-next}
 use Rattle.model.proofs.Checked.{not-cut, not-tooMany}
@@ -33,9 +33,9 @@ unfolding allBelow
 below-end n l i ge = rw (drop-of-length-le l {i = i} ge)
 
 -- the part of the rows that the code lends is the row's arguments
-pub part-is : (rows : List ℕ) (at a n : ℕ) → at ≡ a → n ≡ countAt rows at → take (at + 3 + n - (at + 3)) (drop (at + 3) rows) ≡ argsAt rows a
+pub part-is : (rows : List ℕ) (at a n : ℕ) → at ≡ a → n ≡ argCountAt rows at → take (at + 3 + n - (at + 3)) (drop (at + 3) rows) ≡ argsAt rows a
 part-is rows at a n e f =
-    let g : at + 3 + n - (at + 3) ≡ countAt rows at = omega (arith, f) in
+    let g : at + 3 + n - (at + 3) ≡ argCountAt rows at = omega (arith, f) in
     rw (g, e)
 
 -- the first rows are laid where all are
@@ -57,25 +57,25 @@ module _ {rows offsets : List ℕ} {n : ℕ} (l : Laid rows offsets n) (r at : �
 
 -- what holds of a row that is passed
 pub record Stepped (rows : List ℕ) (i at next : ℕ) : Type 0 where
-  pub on : next ≡ at + 3 + countAt rows at
+  pub on : next ≡ at + 3 + argCountAt rows at
   pub whole : Whole rows at
   pub early : i < 1024
-  pub few : countAt rows at ≤ 16
+  pub few : argCountAt rows at ≤ 16
 
 pub stepped : (states : ℕ) (rows : List ℕ) (i at next : ℕ) → rowStep states rows i at ≡ Next next → Stepped rows i at next
 unfolding rowStep
 stepped states rows i at next e =
-    go (cut rows at) refl (tooMany i (countAt rows at)) refl (outOfRange states (rowAt rows at)) (notBelow (rowAt rows at)) e
+    go (cut rows at) refl (tooMany i (argCountAt rows at)) refl (outOfRange states (rowAt rows at)) (notBelow (rowAt rows at)) e
   where
-    go : (a : Bool) → cut rows at ≡ a → (b : Bool) → tooMany i (countAt rows at) ≡ b → (d f : Bool)
-        → (if a then Faulty CutRow else if b then Faulty TooManyRowsOrArguments else if d then Faulty NotInRange else if f then Faulty ArgumentNotBelowTarget else Next (at + 3 + countAt rows at)) ≡ Next next
+    go : (a : Bool) → cut rows at ≡ a → (b : Bool) → tooMany i (argCountAt rows at) ≡ b → (d f : Bool)
+        → (if a then Faulty CutRow else if b then Faulty TooManyRowsOrArguments else if d then Faulty NotInRange else if f then Faulty ArgumentNotBelowTarget else Next (at + 3 + argCountAt rows at)) ≡ Next next
         → Stepped rows i at next
     go true p b q d f h = let z : _≡_ {A = ℕ} 0 1 = cc in absurd (omega arith)
     go false p true q d f h = let z : _≡_ {A = ℕ} 0 1 = cc in absurd (omega arith)
     go false p false q true f h = let z : _≡_ {A = ℕ} 0 1 = cc in absurd (omega arith)
     go false p false q false true h = let z : _≡_ {A = ℕ} 0 1 = cc in absurd (omega arith)
     go false p false q false false h =
-        let t = not-tooMany i (countAt rows at) q in
+        let t = not-tooMany i (argCountAt rows at) q in
         record {
           on = cc;
           whole = not-cut rows at p;
@@ -101,7 +101,7 @@ walk-begins states rows offsets e = record {
   fine = λ i lt. absurd (omega arith);
 }
 
-start-next : (rows : List ℕ) (n : ℕ) → rowStart rows (n + 1) ≡ rowStart rows n + 3 + countAt rows (rowStart rows n)
+start-next : (rows : List ℕ) (n : ℕ) → rowStart rows (n + 1) ≡ rowStart rows n + 3 + argCountAt rows (rowStart rows n)
 unfolding rowStart
 start-next rows n = rw (add-one n)
 

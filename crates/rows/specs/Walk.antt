@@ -7,7 +7,7 @@ use Rattle.model.specs.declared.Kind.{Kind}
 use Rattle.model.specs.declared.Kind.the-variants.{CutRow, TooManyRowsOrArguments, NotInRange, ArgumentNotBelowTarget}
 use Rattle.model.specs.Answers.{kindNumber}
 use Rattle.model.specs.Choice.{if_then_else_}
-use Rattle.model.specs.Table.{rowAt, rowStart, countAt}
+use Rattle.model.specs.Table.{rowAt, rowStart, argCountAt}
 use Rattle.model.specs.Check.{cut, tooMany, outOfRange, notBelow}
 use Rattle.chains.specs.First.{AllFine}
 use Rattle.rows.specs.declared.RowStep.{RowStep}
@@ -20,10 +20,10 @@ use Rattle.rows.specs.Laid.{Laid}
 unfoldable pub rowStep : (states : ℕ) (rows : List ℕ) (i at : ℕ) → RowStep
 rowStep states rows i at =
     if cut rows at then Faulty CutRow else
-    if tooMany i (countAt rows at) then Faulty TooManyRowsOrArguments else
+    if tooMany i (argCountAt rows at) then Faulty TooManyRowsOrArguments else
     if outOfRange states (rowAt rows at) then Faulty NotInRange else
     if notBelow (rowAt rows at) then Faulty ArgumentNotBelowTarget else
-    Next (at + 3 + countAt rows at)
+    Next (at + 3 + argCountAt rows at)
 
 abbrev pub stepGround : RowStep → ℕ
 stepGround (Next at) = 0

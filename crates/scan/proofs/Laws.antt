@@ -14,9 +14,9 @@ use Rattle.model.specs.Term as term
 use Rattle.model.specs.Term.{afterTerm, mayEnd}
 use Rattle.model.proofs.Lists.{drop-next}
 use Rattle.chains.specs.declared.Found.the-variants.{At, Nothing}
-use Rattle.scan.specs.Reading.{seen, depthOf, placeOf, scanned}
-use Rattle.scan.specs.declared.Reading.{Reading}
-use Rattle.scan.specs.declared.Reading.the-variants.{Due, InName, Closed}
+use Rattle.scan.specs.TextState.{seen, depthOf, placeOf, scanned}
+use Rattle.scan.specs.declared.TextState.{TextState}
+use Rattle.scan.specs.declared.TextState.the-variants.{Due, InName, Closed}
 
 -- after a whole term
 pub after-comma : (depth b : ℕ) → (depth ≡ 0 → ⊥) → b ≡ 44 → term.goesOn (term.due depth) ≡ afterTerm depth b
@@ -49,32 +49,32 @@ unfolding term.step
 name-ends depth bytes b e h = rw (e, ne-eqb b 40 h)
 
 -- the states of the code
-pub due-letter : (r : Reading) (d b : ℕ) → r ≡ Due d → isLetter b ≡ true → term.goesOn (term.inName d 1) ≡ term.step (seen r) b
+pub due-letter : (r : TextState) (d b : ℕ) → r ≡ Due d → isLetter b ≡ true → term.goesOn (term.inName d 1) ≡ term.step (seen r) b
 unfolding term.step
 due-letter r d b e f = rw (e, f)
 
-pub due-other : (r : Reading) (d b : ℕ) → r ≡ Due d → isLetter b ≡ false → term.stops ≡ term.step (seen r) b
+pub due-other : (r : TextState) (d b : ℕ) → r ≡ Due d → isLetter b ≡ false → term.stops ≡ term.step (seen r) b
 unfolding term.step
 due-other r d b e f = rw (e, f)
 
-pub step-name : (r : Reading) (d k b : ℕ) (s : term.Step) → r ≡ InName d k → s ≡ term.step (term.inName d k) b → s ≡ term.step (seen r) b
+pub step-name : (r : TextState) (d k b : ℕ) (s : term.ScanStep) → r ≡ InName d k → s ≡ term.step (term.inName d k) b → s ≡ term.step (seen r) b
 step-name r d k b s e f = rw e f
 
-pub step-closed : (r : Reading) (d b : ℕ) (s : term.Step) → r ≡ Closed d → s ≡ afterTerm d b → s ≡ term.step (seen r) b
+pub step-closed : (r : TextState) (d b : ℕ) (s : term.ScanStep) → r ≡ Closed d → s ≡ afterTerm d b → s ≡ term.step (seen r) b
 unfolding term.step
 step-closed r d b s e f = rw e f
 
-pub end-name : (r : Reading) (d k : ℕ) → r ≡ InName d k → eqb d 0 ≡ mayEnd (seen r)
+pub end-name : (r : TextState) (d k : ℕ) → r ≡ InName d k → eqb d 0 ≡ mayEnd (seen r)
 end-name r d k e = rw e
 
-pub end-closed : (r : Reading) (d : ℕ) → r ≡ Closed d → eqb d 0 ≡ mayEnd (seen r)
+pub end-closed : (r : TextState) (d : ℕ) → r ≡ Closed d → eqb d 0 ≡ mayEnd (seen r)
 end-closed r d e = rw e
 
-pub depth-name : (r : Reading) (d k : ℕ) → r ≡ InName d k → depthOf (seen r) < 65536 → d < 65536
+pub depth-name : (r : TextState) (d k : ℕ) → r ≡ InName d k → depthOf (seen r) < 65536 → d < 65536
 depth-name r d k e l = rw e at l
 
 -- a step opens at most one bracket
-after-deep : (d b : ℕ) (m : term.Reading) → afterTerm d b ≡ term.goesOn m → depthOf m ≤ suc d
+after-deep : (d b : ℕ) (m : term.ScanState) → afterTerm d b ≡ term.goesOn m → depthOf m ≤ suc d
 after-deep zero b m e = let z : _≡_ {A = ℕ} 0 1 = cc in absurd (omega arith)
 after-deep (suc d) b m e = go (eqb b 44) (eqb b 41) e
   where
@@ -83,7 +83,7 @@ after-deep (suc d) b m e = go (eqb b 44) (eqb b 41) e
     go false true h = let z : term.closed d ≡ m = cc in rw (sym z) (omega arith)
     go false false h = let z : _≡_ {A = ℕ} 0 1 = cc in absurd (omega arith)
 
-step-deep : (r m : term.Reading) (b : ℕ) → term.step r b ≡ term.goesOn m → depthOf m ≤ suc (depthOf r)
+step-deep : (r m : term.ScanState) (b : ℕ) → term.step r b ≡ term.goesOn m → depthOf m ≤ suc (depthOf r)
 unfolding term.step
 step-deep (term.due d) m b e = go (isLetter b) e
   where
@@ -101,7 +101,7 @@ step-deep (term.inName d k) m b e = go (isNameByte b) (ltb k 24) (eqb b 40) e
 step-deep (term.closed d) m b e = after-deep d b m e
 
 -- the state after i bytes
-pub record Read (text : List ℕ) (r : Reading) (i : ℕ) : Type 0 where
+pub record Read (text : List ℕ) (r : TextState) (i : ℕ) : Type 0 where
   pub within : i ≤ length text
   pub shallow : depthOf (seen r) ≤ i
   pub same : term.scan (seen r) i (drop i text) ≡ scanned text
@@ -109,12 +109,12 @@ pub record Read (text : List ℕ) (r : Reading) (i : ℕ) : Type 0 where
 pub begins : (text : List ℕ) → Read text (Due 0) 0
 begins text = record { within = omega arith; shallow = omega arith; same = refl }
 
-module _ {text : List ℕ} {r : Reading} {i : ℕ} (x : Read text r i) (l : i < length text) where
+module _ {text : List ℕ} {r : TextState} {i : ℕ} (x : Read text r i) (l : i < length text) where
   here : term.onward (λ next. term.scan next (suc i) (drop (i + 1) text)) (term.step (seen r) (getD text i 0)) i ≡ scanned text
   unfolding term.scan
   here = rw (drop-next text i l) at (x .same)
 
-  pub goes : (n : Reading) → term.goesOn (seen n) ≡ term.step (seen r) (getD text i 0) → Read text n (i + 1)
+  pub goes : (n : TextState) → term.goesOn (seen n) ≡ term.step (seen r) (getD text i 0) → Read text n (i + 1)
   goes n e = record {
     within = omega arith;
     shallow = omega (arith, step-deep (seen r) (seen n) (getD text i 0) (sym e), x .shallow);
@@ -124,7 +124,7 @@ module _ {text : List ℕ} {r : Reading} {i : ℕ} (x : Read text r i) (l : i < 
   pub stops-here : term.stops ≡ term.step (seen r) (getD text i 0) → At i ≡ placeOf (scanned text)
   stops-here e = ap (λ (s : term.Scan). placeOf s) (rw (sym e) at here)
 
-module _ {text : List ℕ} {r : Reading} {i : ℕ} (x : Read text r i) (ge : length text ≤ i) where
+module _ {text : List ℕ} {r : TextState} {i : ℕ} (x : Read text r i) (ge : length text ≤ i) where
   at-end : (if mayEnd (seen r) then term.passes else term.breaksAt i) ≡ scanned text
   unfolding term.scan
   at-end = rw (drop-of-length-le text {i = i} ge) at (x .same)

@@ -1,2 +1,2 @@
 -- What the reading of a text promises.
-pub mod Reading
+pub mod TextState

@@ -6,79 +6,79 @@ ghost use mathlib.Core.Path.{_≡_};
 ghost use Prim.Native.Nat.{_<_, _≤_};
 ghost use lib.ListN.{length};
 ghost use Rattle.model.specs.Term.{inName, afterTerm, step, mayEnd};
-ghost use Rattle.scan.specs.Reading.{seen, seenStep, depthOf, placeOf, scanned};
+ghost use Rattle.scan.specs.TextState.{seen, seenStep, depthOf, placeOf, scanned};
 
 // Where a text is being read: so many brackets are open, and a name is due, so many bytes of a name are read, or a
 // bracket has just been closed.
-pub enum Reading {
+pub enum TextState {
     Due(usize),
     InName(usize, usize),
     Closed(usize),
 }
 
-pub enum Step {
-    GoesOn(Reading),
+pub enum TextStep {
+    GoesOn(TextState),
     Stops,
 }
 
 // The byte after a whole term.
-fn after_term(depth: usize, b: u8) -> Step
+fn after_term(depth: usize, b: u8) -> TextStep
     ensures { λ r. ⌜ seenStep r ≡ afterTerm depth b ⌝ }
 {
     if depth == 0 {
-        return Step::Stops;
+        return TextStep::Stops;
     }
     if b == 44 {
-        return Step::GoesOn(Reading::Due(depth));
+        return TextStep::GoesOn(TextState::Due(depth));
     }
     if b == 41 {
-        return Step::GoesOn(Reading::Closed(depth - 1));
+        return TextStep::GoesOn(TextState::Closed(depth - 1));
     }
-    Step::Stops
+    TextStep::Stops
 }
 
 // The byte after so many bytes of a name.
-fn after_name(depth: usize, bytes: usize, b: u8) -> Step
+fn after_name(depth: usize, bytes: usize, b: u8) -> TextStep
     requires { ⌜ depth < 65536 ⌝ }
     ensures { λ r. ⌜ seenStep r ≡ step (inName depth bytes) b ⌝ }
 {
     if is_name_byte(b) {
         if bytes < 24 {
-            return Step::GoesOn(Reading::InName(depth, bytes + 1));
+            return TextStep::GoesOn(TextState::InName(depth, bytes + 1));
         }
-        return Step::Stops;
+        return TextStep::Stops;
     }
     if b == 40 {
-        return Step::GoesOn(Reading::Due(depth + 1));
+        return TextStep::GoesOn(TextState::Due(depth + 1));
     }
     after_term(depth, b)
 }
 
 // Reads one byte.
-fn next_byte(r: Reading, b: u8) -> Step
+fn next_byte(r: TextState, b: u8) -> TextStep
     requires { ⌜ depthOf (seen r) < 65536 ⌝ }
     ensures { λ s. ⌜ seenStep s ≡ step (seen r) b ⌝ }
 {
     match r {
-        Reading::Due(depth) => {
+        TextState::Due(depth) => {
             if is_letter(b) {
-                return Step::GoesOn(Reading::InName(depth, 1));
+                return TextStep::GoesOn(TextState::InName(depth, 1));
             }
-            Step::Stops
+            TextStep::Stops
         }
-        Reading::InName(depth, bytes) => after_name(depth, bytes, b),
-        Reading::Closed(depth) => after_term(depth, b),
+        TextState::InName(depth, bytes) => after_name(depth, bytes, b),
+        TextState::Closed(depth) => after_term(depth, b),
     }
 }
 
 // Whether the text may end here.
-fn may_end(r: Reading) -> bool
+fn may_end(r: TextState) -> bool
     ensures { λ t. ⌜ t ≡ mayEnd (seen r) ⌝ }
 {
     match r {
-        Reading::Due(_) => false,
-        Reading::InName(depth, _) => depth == 0,
-        Reading::Closed(depth) => depth == 0,
+        TextState::Due(_) => false,
+        TextState::InName(depth, _) => depth == 0,
+        TextState::Closed(depth) => depth == 0,
     }
 }
 
@@ -87,15 +87,15 @@ pub fn scan_text(text: &[u8]) -> Found
     requires { ⌜ length (now text) ≤ 65536 ⌝ }
     ensures { λ r. ⌜ r ≡ placeOf (scanned (now (text .entry))) ⌝ }
 {
-    let mut r = Reading::Due(0);
+    let mut r = TextState::Due(0);
     let mut i: usize = 0;
     while i < text.len() {
         match next_byte(r, text[i]) {
-            Step::GoesOn(n) => {
+            TextStep::GoesOn(n) => {
                 r = n;
                 i += 1;
             }
-            Step::Stops => {
+            TextStep::Stops => {
                 return Found::At(i);
             }
         }

@@ -21,7 +21,7 @@ use Rattle.chains.specs.First.{AllFine, FirstAt}
 use Rattle.rows.specs.Laid.{Laid}
 use Rattle.index.specs.Index.{Index}
 use Rattle.counts.specs.Chain.{InOrder, Chained}
-use Rattle.counts.specs.States.{ceiling, held, Within, rowTable, Known}
+use Rattle.counts.specs.States.{ceiling, held, ArgsWithin, rowTable, CountsKnown}
 use Rattle.counts.proofs.All.{ground-same}
 use Rattle.table.specs.declared.Checked.{Checked}
 use Rattle.table.specs.declared.Checked.the-variants.{Sound, Refuses}
@@ -39,7 +39,7 @@ in-order states rows n few fine = record {
 
 -- the accepting states have counts within the limit
 pub entries-within : {states : ℕ} {rows accepting cs ls sums : List ℕ} → states ≤ 256 → AllFine (length accepting) (acceptingGround states accepting)
-    → Known states rows states cs ls sums → Within countLimit cs accepting
+    → CountsKnown states rows states cs ls sums → ArgsWithin countLimit cs accepting
 entries-within {states} {rows} {accepting} {cs} {ls} {sums} few fine x = record {
   placed = λ k lt. omega (arith, entry-good states accepting k (fine k lt) .state);
   small = λ k lt. small (getD accepting k 0) (entry-good states accepting k (fine k lt) .state);
@@ -118,7 +118,7 @@ fault-is states rows accepting q k f =
     (λ j l. ground-same states rows accepting j ∙ f .before j l) (ground-same states rows accepting q ∙ f .here) (kind-positive k)
 
 -- no faulty state: the total decides
-module _ (states : ℕ) (rows accepting cs ls sums : List ℕ) (fine : AllFine (length accepting) (acceptingGround states accepting)) (x : Known states rows states cs ls sums)
+module _ (states : ℕ) (rows accepting cs ls sums : List ℕ) (fine : AllFine (length accepting) (acceptingGround states accepting)) (x : CountsKnown states rows states cs ls sums)
     (t : ℕ) (e : t ≡ min (sum (map (held cs) accepting)) ceiling) where
   total-kept : t ≡ min (total (tableOf states rows accepting)) ceiling
   total-kept = e ∙ ap (λ (v : ℕ). min v ceiling) (total-same states rows accepting cs (λ k lt. x .counts (getD accepting k 0) (entry-good states accepting k (fine k lt) .state)))
@@ -154,7 +154,7 @@ module _ {states : ℕ} {rows accepting : List ℕ} {n : ℕ} {offsets first₀ 
       → FirstAt states (stateGround countLimit (rowTable states rows)) q (kindNumber k) → StatesAnswer states rows accepting n first after cs ls sums (Refuses f)
   states-fault q k f e x = states-refused f (e ∙ fault-is states rows accepting q k x)
 
-  module _ {cs ls sums : List ℕ} (x : Known states rows states cs ls sums) (t : ℕ) (e : t ≡ min (sum (map (held cs) accepting)) ceiling) where
+  module _ {cs ls sums : List ℕ} (x : CountsKnown states rows states cs ls sums) (t : ℕ) (e : t ≡ min (sum (map (held cs) accepting)) ceiling) where
     pub states-over : {first after : List ℕ} (f : Refusal) → countLimit < t → refusedBy f ≡ refused 11 0 → StatesAnswer states rows accepting n first after cs ls sums (Refuses f)
     states-over f gt h = states-refused f (h ∙ over-is states rows accepting cs ls sums (s .entries-fine) x t e gt)
 

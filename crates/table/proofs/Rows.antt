@@ -11,7 +11,7 @@ use Rattle.model.specs.declared.Kind.{Kind}
 use Rattle.model.specs.declared.Kind.the-variants.{CutRow, TooManyRowsOrArguments, NotInRange, ArgumentNotBelowTarget, RepeatedRow}
 use Rattle.model.specs.Answers.{kindNumber}
 use Rattle.model.specs.Choice.{if_then_else_}
-use Rattle.model.specs.Table.{rowStart, rowNumbered, howManyRows, countAt}
+use Rattle.model.specs.Table.{rowStart, rowNumbered, howManyRows, argCountAt}
 use Rattle.model.specs.Check.{cut, tooMany, outOfRange, notBelow, repeated, rowGround}
 use Rattle.model.proofs.Numbers.{kind-positive}
 use Rattle.model.proofs.Choice.{is-false}
@@ -25,7 +25,7 @@ use Rattle.rows.specs.declared.Walked.the-variants.{Passed, Stopped}
 use Rattle.rows.specs.declared.RowStep.the-variants.{Next, Faulty}
 use Rattle.rows.specs.Laid.{Laid}
 use Rattle.rows.specs.Walk.{rowStep, stepGround, formGround, passed, Walk}
-use Rattle.index.specs.Index.{Index, Answered}
+use Rattle.index.specs.Index.{Index, IndexAnswer}
 use Rattle.chains.specs.First.{AllFine, FirstAt}
 use Rattle.table.specs.Checked.{RowsChecked}
 
@@ -37,11 +37,11 @@ formElse (suc k) b = suc k
 ground-is : (states : ℕ) (rows : List ℕ) (i : ℕ) → rowGround states rows i ≡ formElse (formGround states rows i) (repeated rows i)
 unfolding rowGround rowStep formElse
 ground-is states rows i =
-    go (cut rows (rowStart rows i)) (tooMany i (countAt rows (rowStart rows i))) (outOfRange states (rowNumbered rows i)) (notBelow (rowNumbered rows i))
+    go (cut rows (rowStart rows i)) (tooMany i (argCountAt rows (rowStart rows i))) (outOfRange states (rowNumbered rows i)) (notBelow (rowNumbered rows i))
   where
     go : (a b c d : Bool)
         → (if a then 2 else if b then 3 else if c then 4 else if d then 5 else if repeated rows i then 6 else 0)
-        ≡ formElse (stepGround (if a then Faulty CutRow else if b then Faulty TooManyRowsOrArguments else if c then Faulty NotInRange else if d then Faulty ArgumentNotBelowTarget else Next (rowStart rows i + 3 + countAt rows (rowStart rows i)))) (repeated rows i)
+        ≡ formElse (stepGround (if a then Faulty CutRow else if b then Faulty TooManyRowsOrArguments else if c then Faulty NotInRange else if d then Faulty ArgumentNotBelowTarget else Next (rowStart rows i + 3 + argCountAt rows (rowStart rows i)))) (repeated rows i)
     go true b c d = refl
     go false true c d = refl
     go false false true d = refl
@@ -72,7 +72,7 @@ module _ {states : ℕ} {rows offsets : List ℕ} {w : Walked} (x : Walk states 
   fine-below n le none i lt = row-by states rows i false (x .fine i (omega arith)) (is-false (repeated rows i) (none i lt))
 
   -- a row that repeats an earlier one
-  pub rows-repeat : {heads next : List ℕ} (n : ℕ) (o : Found) (r : ℕ) → n ≡ passed w → Answered rows n heads next o → o ≡ At r
+  pub rows-repeat : {heads next : List ℕ} (n : ℕ) (o : Found) (r : ℕ) → n ≡ passed w → IndexAnswer rows n heads next o → o ≡ At r
       → RowsChecked states rows offsets heads next (Stopped r RepeatedRow)
   rows-repeat n o r m y e =
       let f = first-is (repeated rows) (passed w) r (ap (firstWith (repeated rows)) (sym m) ∙ sym (y .answer) ∙ e) in
@@ -93,7 +93,7 @@ module _ {states : ℕ} {rows offsets : List ℕ} {w : Walked} (x : Walk states 
           rw (← a, ← b) y
 
   -- no row passed repeats an earlier one
-  pub rows-clear : {heads next : List ℕ} (n : ℕ) (o : Found) → n ≡ passed w → Answered rows n heads next o → o ≡ Nothing → RowsChecked states rows offsets heads next w
+  pub rows-clear : {heads next : List ℕ} (n : ℕ) (o : Found) → n ≡ passed w → IndexAnswer rows n heads next o → o ≡ Nothing → RowsChecked states rows offsets heads next w
   rows-clear {heads} {next} m o em y eo = record {
     passed = λ n h. all n h;
     stopped = λ n k h. stop n k h;

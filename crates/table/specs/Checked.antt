@@ -16,7 +16,7 @@ use Rattle.rows.specs.declared.Walked.the-variants.{Passed, Stopped}
 use Rattle.rows.specs.Laid.{Laid}
 use Rattle.index.specs.Index.{Index}
 use Rattle.counts.specs.Chain.{Chained, Unchained}
-use Rattle.counts.specs.States.{Known}
+use Rattle.counts.specs.States.{CountsKnown}
 use Rattle.table.specs.declared.Checked.{Checked}
 use Rattle.table.specs.declared.Checked.the-variants.{Sound, Refuses}
 
@@ -53,7 +53,7 @@ pub record StatesAnswer (states : ℕ) (rows accepting : List ℕ) (n : ℕ) (fi
   pub answer : told r ≡ checkOutcome states rows accepting
   pub rows-are : (t m : ℕ) → r ≡ Sound t m → m ≡ n
   pub chained : (t m : ℕ) → r ≡ Sound t m → Chained rows 0 n first after
-  pub known : (t m : ℕ) → r ≡ Sound t m → Known states rows states counts longest sums
+  pub known : (t m : ℕ) → r ≡ Sound t m → CountsKnown states rows states counts longest sums
 
 -- arrays that have not been written
 pub record Blank (offsets heads next first after counts longest sums : List ℕ) : Type 0 where
@@ -70,7 +70,7 @@ pub record Prepared (states : ℕ) (rows offsets heads next first after counts l
   pub laid : Laid rows offsets n
   pub index : Index rows n heads next
   pub chained : Chained rows 0 n first after
-  pub known : Known states rows states counts longest sums
+  pub known : CountsKnown states rows states counts longest sums
 
 -- what the check answers, and what it leaves where the table passes
 pub record CheckAnswer (states : ℕ) (rows accepting offsets heads next first after counts longest sums : List ℕ) (r : Checked) : Type 0 where

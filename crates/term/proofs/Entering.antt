@@ -10,7 +10,7 @@ use borrow.Author.Tests.{eq-eqb, ne-eqb}
 use Rattle.model.specs.Names.{isNameByte}
 use Rattle.model.specs.Term.{run}
 use Rattle.chains.specs.declared.Found.the-variants.{At, Nothing}
-use Rattle.names.specs.Listed.{nameFound}
+use Rattle.names.specs.NamesIndex.{nameFound}
 use Rattle.term.specs.Emit.{nodeEntries, emitted}
 use Rattle.term.specs.Written.{Put, Front, NamesListed}
 use Rattle.term.proofs.Runs.{Fresh, fresh-first, other-fresh, other-entries, longer, run-entries, run-fresh, listed-ground, unlisted-ground}

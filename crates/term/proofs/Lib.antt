@@ -1,8 +1,8 @@
 -- The laws of names lists and terms.
-pub mod Letters
+pub mod EntriesText
 pub mod Tokens
 pub mod Runs
 pub mod Pieces
 pub mod Entering
-pub mod Lettering
+pub mod EntryText
 pub mod Outcomes

@@ -9,8 +9,8 @@ use lib.Dec.{ltb}
 use borrow.Author.Tests.{lt-ltb, le-ltb, ltb-false}
 use Rattle.model.specs.Answers.{Outcome, result, refused, refusedBy, outcome, lentAfter}
 use Rattle.model.specs.Choice.{if_then_else_}
-use Rattle.model.specs.Names.{howManyNames, namesOr}
-use Rattle.model.specs.Term.{Scan, passes, breaksAt, IsTerm, termOr}
+use Rattle.model.specs.Names.{howManyNames, namesThen}
+use Rattle.model.specs.Term.{Scan, passes, breaksAt, IsTerm, termThen}
 use Rattle.model.specs.Tree.{WellFormed}
 use Rattle.model.specs.TermOperations.{entriesOf, bytesOf, symbolGround, readTermOutcome, writeTermOutcome, readTermList, writeTermList}
 use Rattle.model.specs.declared.Answer.{Answer}
@@ -25,16 +25,16 @@ use Rattle.tree.specs.declared.Form.the-variants.{Refuses, Tree as FormTree}
 use Rattle.chains.specs.First.{firstWith}
 use Rattle.chains.specs.declared.Found.the-variants.{At, Nothing}
 use Rattle.chains.proofs.First.{first-is, first-none, apart}
-use Rattle.scan.specs.Reading.{placeOf, scanned}
-use Rattle.term.specs.Emit.{emitted, nameCount, lettered}
+use Rattle.scan.specs.TextState.{placeOf, scanned}
+use Rattle.term.specs.Emit.{emitted, nameCount, entriesText}
 use Rattle.term.specs.Written.{Front, Listing, AllNamed, readFits, readWhole, readNamed, writeFits, writeFormed, writeNamed, Gave, ReadTerm, WriteTerm}
-use Rattle.names.specs.Listed.{Answered}
-use Rattle.names.specs.declared.Names.{Names}
-use Rattle.names.specs.declared.Names.the-variants.{Sound, Faulty}
-use Rattle.term.specs.declared.Listed.{Listed}
-use Rattle.term.specs.declared.Listed.the-variants.{All, Unlisted}
+use Rattle.names.specs.NamesIndex.{NamesAnswer}
+use Rattle.names.specs.declared.NamesCheck.{NamesCheck}
+use Rattle.names.specs.declared.NamesCheck.the-variants.{Sound, Faulty}
+use Rattle.term.specs.declared.Lookup.{Lookup}
+use Rattle.term.specs.declared.Lookup.the-variants.{All, Unlisted}
 use Rattle.term.proofs.Tokens.{emitted-is, names-counted}
-use Rattle.term.proofs.Letters.{letters-are}
+use Rattle.term.proofs.EntriesText.{entries-text}
 
 -- an answer with its list
 pub gave-refused : {o : Outcome} {written old : List ℕ} (r : Refusal) → refusedBy r ≡ o → Gave o written old old (Refused r)
@@ -72,7 +72,7 @@ pub entered-front : (names text old new : List ℕ) → IsTerm text → Front ol
 entered-front names text old new w f = rw (sym (emitted-is names text w)) f
 
 -- 20
-module _ {names text : List ℕ} {r : Listed} (x : Listing names text r) (room : ℕ) where
+module _ {names text : List ℕ} {r : Lookup} (x : Listing names text r) (room : ℕ) where
   pub not-listed : (p : ℕ) → r ≡ Unlisted p → refused 20 p ≡ readWhole names text room
   unfolding readWhole
   not-listed p e = rw e at (x .decided (readFits names text room))
@@ -92,11 +92,11 @@ unbroken (breaksAt q) e = apart q (sym e)
 
 module _ (names text : List ℕ) (room : ℕ) (short : length text ≤ 65536) where
   pub no-term : (p : ℕ) → At p ≡ placeOf (scanned text) → refused 19 p ≡ readNamed names text room
-  unfolding readNamed termOr
+  unfolding readNamed termThen
   no-term p e = rw (le-ltb 65536 (length text) short, broken (scanned text) p e)
 
   pub a-term : Nothing ≡ placeOf (scanned text) → readWhole names text room ≡ readNamed names text room
-  unfolding readNamed termOr
+  unfolding readNamed termThen
   a-term e = rw (le-ltb 65536 (length text) short, unbroken (scanned text) e)
 
 pub term-is : (text : List ℕ) → Nothing ≡ placeOf (scanned text) → IsTerm text
@@ -108,15 +108,15 @@ unfolding readNamed
 text-too-long names text room l = rw (lt-ltb 65536 (length text) l)
 
 -- 17
-module _ {names starts heads next : List ℕ} {r : Names} (x : Answered names starts heads next r) where
-  pub faulty-names : (k : ℕ) (o : Outcome) → r ≡ Faulty k → refused 17 k ≡ namesOr names o
+module _ {names starts heads next : List ℕ} {r : NamesCheck} (x : NamesAnswer names starts heads next r) where
+  pub faulty-names : (k : ℕ) (o : Outcome) → r ≡ Faulty k → refused 17 k ≡ namesThen names o
   faulty-names k o e = rw e at (x .decided o)
 
-  pub sound-names : (n : ℕ) (o : Outcome) → r ≡ Sound n → o ≡ namesOr names o
+  pub sound-names : (n : ℕ) (o : Outcome) → r ≡ Sound n → o ≡ namesThen names o
   sound-names n o e = rw e at (x .decided o)
 
 -- the whole
-pub read-by : (names text : List ℕ) (room : ℕ) → namesOr names (readNamed names text room) ≡ readTermOutcome names text room
+pub read-by : (names text : List ℕ) (room : ℕ) → namesThen names (readNamed names text room) ≡ readTermOutcome names text room
 unfolding readTermOutcome readNamed readWhole readFits
 read-by names text room = refl
 
@@ -127,9 +127,9 @@ read-told g = record { answer = g .answer; list = g .list }
 -- ---- writing
 
 -- 24, and the result
-module _ (names tree : List ℕ) (room needed : ℕ) (w : WellFormed tree) (e : needed ≡ length (lettered names 0 tree)) where
+module _ (names tree : List ℕ) (room needed : ℕ) (w : WellFormed tree) (e : needed ≡ length (entriesText names 0 tree)) where
   bytes-are : needed ≡ length (bytesOf names tree)
-  bytes-are = e ∙ ap length (letters-are names tree w)
+  bytes-are = e ∙ ap length (entries-text names tree w)
 
   pub short-text : room < needed → refused 24 needed ≡ writeFits names tree room
   unfolding writeFits
@@ -139,8 +139,8 @@ module _ (names tree : List ℕ) (room needed : ℕ) (w : WellFormed tree) (e : 
   unfolding writeFits
   text-fits l = rw (le-ltb room (length (bytesOf names tree)) (omega (arith, bytes-are)), bytes-are)
 
-pub lettered-front : (names tree old new : List ℕ) → WellFormed tree → Front old new (lettered names 0 tree) → Front old new (bytesOf names tree)
-lettered-front names tree old new w f = rw (sym (letters-are names tree w)) f
+pub text-front : (names tree old new : List ℕ) → WellFormed tree → Front old new (entriesText names 0 tree) → Front old new (bytesOf names tree)
+text-front names tree old new w f = rw (sym (entries-text names tree w)) f
 
 -- 23
 module _ (names tree : List ℕ) (n room : ℕ) (c : n ≡ howManyNames names) where
@@ -174,7 +174,7 @@ module _ {tree : List ℕ} {f : Form} (x : Decides tree f) (names : List ℕ) (r
   unfolding writeNamed
   a-tree e = list-taken x e (writeFormed names tree room)
 
-pub write-by : (names tree : List ℕ) (room : ℕ) → namesOr names (writeNamed names tree room) ≡ writeTermOutcome names tree room
+pub write-by : (names tree : List ℕ) (room : ℕ) → namesThen names (writeNamed names tree room) ≡ writeTermOutcome names tree room
 unfolding writeTermOutcome writeNamed writeFormed writeFits
 write-by names tree room = refl
 

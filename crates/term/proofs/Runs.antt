@@ -17,12 +17,12 @@ use Rattle.model.proofs.Choice.{no-fault, fault-refused}
 use Rattle.model.proofs.Bytes.{NoByte, byte-first, byte-others}
 use Rattle.model.proofs.Lists.{drop-next}
 use Rattle.chains.specs.declared.Found.the-variants.{At, Nothing}
-use Rattle.names.specs.Listed.{nameFound}
+use Rattle.names.specs.NamesIndex.{nameFound}
 use Rattle.names.proofs.Bytes.{run-more}
 use Rattle.names.proofs.Lines.{rest-is, clean, end-byte, found-listed, not-found-listed}
 use Rattle.term.specs.Emit.{nodeEntries, emitted, nameCount}
 use Rattle.term.specs.Written.{Listing}
-use Rattle.term.specs.declared.Listed.the-variants.{All, Unlisted}
+use Rattle.term.specs.declared.Lookup.the-variants.{All, Unlisted}
 use Rattle.term.proofs.Tokens.{emitted-run, emitted-other, count-run, count-other}
 
 -- a name byte here begins a name

@@ -31,14 +31,14 @@ nameCount inName (b ∷ bs) = (if isNameByte b && not inName then 1 else 0) + na
 
 -- the bytes for an entry: before the name of a symbol stands `(` where a symbol comes before it and `,` where a bar does; a bar after a bar
 -- is `)`. What comes before is told by the byte that a name would have before it, 0 for none
-unfoldable pub lettering : (names : List ℕ) (mark e : ℕ) → List ℕ
-lettering names mark e =
+unfoldable pub entryText : (names : List ℕ) (mark e : ℕ) → List ℕ
+entryText names mark e =
     if eqb e 0 then (if eqb mark 44 then 41 ∷ [] else []) else
     (if eqb mark 0 then [] else mark ∷ []) ++ nameOf names e
 
 abbrev pub markAfter : ℕ → ℕ
 markAfter e = if eqb e 0 then 44 else 40
 
-unfoldable pub lettered : (names : List ℕ) (mark : ℕ) → List ℕ → List ℕ
-lettered names mark [] = []
-lettered names mark (e ∷ es) = lettering names mark e ++ lettered names (markAfter e) es
+unfoldable pub entriesText : (names : List ℕ) (mark : ℕ) → List ℕ → List ℕ
+entriesText names mark [] = []
+entriesText names mark (e ∷ es) = entryText names mark e ++ entriesText names (markAfter e) es

@@ -8,13 +8,13 @@ use lib.Dec.{ltb}
 use Rattle.model.specs.Answers.{Outcome, result, refused, outcome, lentAfter}
 use Rattle.model.specs.Choice.{if_then_else_, firstFaulty}
 use Rattle.model.specs.Names.{howManyNames}
-use Rattle.model.specs.Term.{termOr}
-use Rattle.model.specs.Entries.{treeOr}
+use Rattle.model.specs.Term.{termThen}
+use Rattle.model.specs.Entries.{treeThen}
 use Rattle.model.specs.TermOperations.{entriesOf, bytesOf, nameGround, symbolGround, readTermOutcome, writeTermOutcome, readTermList, writeTermList}
 use Rattle.model.specs.declared.Answer.{Answer}
 use Rattle.term.specs.Emit.{nameCount}
-use Rattle.term.specs.declared.Listed.{Listed}
-use Rattle.term.specs.declared.Listed.the-variants.{All, Unlisted}
+use Rattle.term.specs.declared.Lookup.{Lookup}
+use Rattle.term.specs.declared.Lookup.the-variants.{All, Unlisted}
 
 -- a piece is put at a place, and the next place comes after it
 pub record Put (old new piece : List ℕ) (at next : ℕ) : Type 0 where
@@ -26,13 +26,13 @@ pub record Front (old new written : List ℕ) : Type 0 where
   pub holds : new ≡ written ++ drop (length written) old
 
 -- the refusal of 20, or where every name is listed what follows
-abbrev pub listedThen : Listed → Outcome → Outcome
-listedThen (All count) otherwise = otherwise
-listedThen (Unlisted place) otherwise = refused 20 place
+abbrev pub lookupThen : Lookup → Outcome → Outcome
+lookupThen (All count) otherwise = otherwise
+lookupThen (Unlisted place) otherwise = refused 20 place
 
 -- the answer decides 20; where every name is listed, it counts them
-pub record Listing (names text : List ℕ) (r : Listed) : Type 0 where
-  pub decided : (o : Outcome) → listedThen r o ≡ firstFaulty (length text) (nameGround names text) o
+pub record Listing (names text : List ℕ) (r : Lookup) : Type 0 where
+  pub decided : (o : Outcome) → lookupThen r o ≡ firstFaulty (length text) (nameGround names text) o
   pub none : (k : ℕ) → r ≡ All k → (i : ℕ) → i < length text → nameGround names text i ≡ 0
   pub counted : (k : ℕ) → r ≡ All k → k ≡ nameCount false text
   pub few : (k : ℕ) → r ≡ All k → k ≤ length text
@@ -57,7 +57,7 @@ unfoldable pub readWhole : (names text : List ℕ) (room : ℕ) → Outcome
 readWhole names text room = firstFaulty (length text) (nameGround names text) (readFits names text room)
 
 unfoldable pub readNamed : (names text : List ℕ) (room : ℕ) → Outcome
-readNamed names text room = if ltb 65536 (length text) then refused 18 0 else termOr text (readWhole names text room)
+readNamed names text room = if ltb 65536 (length text) then refused 18 0 else termThen text (readWhole names text room)
 
 -- Writing after 23, after 13 and after 17: what follows in `writeTermOutcome`
 unfoldable pub writeFits : (names tree : List ℕ) (room : ℕ) → Outcome
@@ -67,7 +67,7 @@ unfoldable pub writeFormed : (names tree : List ℕ) (room : ℕ) → Outcome
 writeFormed names tree room = firstFaulty (length tree) (symbolGround names tree) (writeFits names tree room)
 
 unfoldable pub writeNamed : (names tree : List ℕ) (room : ℕ) → Outcome
-writeNamed names tree room = treeOr tree (writeFormed names tree room)
+writeNamed names tree room = treeThen tree (writeFormed names tree room)
 
 -- the answer is the outcome, and the lent list then holds what is written and the old rest, or on a refusal the old list
 pub record Gave (o : Outcome) (written old new : List ℕ) (r : Answer) : Type 0 where

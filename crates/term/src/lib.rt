@@ -4,7 +4,7 @@ use chains::wide;
 use model::Answer;
 use model::Kind;
 use model::refuse;
-use names::Names;
+use names::NamesCheck;
 use names::check_names;
 use names::find_name;
 use names::is_name_byte;
@@ -23,12 +23,12 @@ ghost use Rattle.model.specs.Term.{IsTerm};
 ghost use Rattle.model.specs.Tree.{WellFormed};
 ghost use Rattle.model.specs.TermOperations.{entriesOf, bytesOf};
 ghost use Rattle.chains.specs.First.{firstWith};
-ghost use Rattle.names.specs.Listed.{Known, Lined};
-ghost use Rattle.term.specs.Emit.{nodeEntries, emitted, nameCount, lettering, markAfter, lettered};
+ghost use Rattle.names.specs.NamesIndex.{NamesIndexed, Lined};
+ghost use Rattle.term.specs.Emit.{nodeEntries, emitted, nameCount, entryText, markAfter, entriesText};
 ghost use Rattle.term.specs.Written.{Put, Front, Listing, NamesListed, AllNamed, readFits, readWhole, readNamed, writeFits, writeFormed, writeNamed, Gave, ReadTerm, WriteTerm};
 
 // Every name in a text is listed, so many; or the first that is not begins at a place.
-pub enum Listed {
+pub enum Lookup {
     All(usize),
     Unlisted(usize),
 }
@@ -41,8 +41,8 @@ fn list_names(
     next: &[u16; 256],
     n: usize,
     text: &[u8],
-) -> Listed
-    requires { ⌜ Known (now names) (now starts) (now heads) (now next) n ⌝ }
+) -> Lookup
+    requires { ⌜ NamesIndexed (now names) (now starts) (now heads) (now next) n ⌝ }
     requires { ⌜ n ≡ howManyNames (now names) ⌝ }
     ensures { λ r. ⌜ Listing (now (names .entry)) (now (text .entry)) r ⌝ }
 {
@@ -53,7 +53,7 @@ fn list_names(
             let end = run_end(text, i);
             match find_name(names, starts, heads, next, n, &text[i..end]) {
                 Found::Nothing => {
-                    return Listed::Unlisted(i);
+                    return Lookup::Unlisted(i);
                 }
                 Found::At(_) => {
                     count += 1;
@@ -64,7 +64,7 @@ fn list_names(
             i += 1;
         }
     }
-    Listed::All(count)
+    Lookup::All(count)
 }
 
 // Puts a node's symbol and, for a leaf, its bar; gives the place after them.
@@ -100,7 +100,7 @@ fn put_entries(
     text: &[u8],
     tree: &mut [u16],
 )
-    requires { ⌜ Known (now names) (now starts) (now heads) (now next) n ⌝ }
+    requires { ⌜ NamesIndexed (now names) (now starts) (now heads) (now next) n ⌝ }
     requires { ⌜ NamesListed (now names) n (now text) ⌝ }
     requires { ⌜ length (emitted (now names) false (now text)) ≤ length (now tree) ⌝ }
     ensures { λ r. ⌜ Front (now (tree .entry)) (now (tree .exit)) (emitted (now (names .entry)) false (now (text .entry))) ⌝ }
@@ -141,7 +141,7 @@ fn enter_tree(
     count: usize,
     tree: &mut [u16],
 ) -> Answer
-    requires { ⌜ Known (now names) (now starts) (now heads) (now next) n ⌝ }
+    requires { ⌜ NamesIndexed (now names) (now starts) (now heads) (now next) n ⌝ }
     requires { ⌜ NamesListed (now names) n (now text) ⌝ }
     requires { ⌜ IsTerm (now text) ⌝ }
     requires { ⌜ (count ≡ nameCount false (now text)) × (count ≤ 65536) ⌝ }
@@ -168,14 +168,14 @@ fn read_whole(
     text: &[u8],
     tree: &mut [u16],
 ) -> Answer
-    requires { ⌜ Known (now names) (now starts) (now heads) (now next) n ⌝ }
+    requires { ⌜ NamesIndexed (now names) (now starts) (now heads) (now next) n ⌝ }
     requires { ⌜ n ≡ howManyNames (now names) ⌝ }
     requires { ⌜ IsTerm (now text) × (length (now text) ≤ 65536) ⌝ }
     ensures { λ r. ⌜ Gave (readWhole (now (names .entry)) (now (text .entry)) (length (now (tree .entry)))) (entriesOf (now (names .entry)) (now (text .entry))) (now (tree .entry)) (now (tree .exit)) r ⌝ }
 {
     match list_names(names, starts, heads, next, n, text) {
-        Listed::Unlisted(place) => Answer::Refused(refuse(Kind::UnlistedName, place as u64)),
-        Listed::All(count) => enter_tree(names, starts, heads, next, n, text, count, tree),
+        Lookup::Unlisted(place) => Answer::Refused(refuse(Kind::UnlistedName, place as u64)),
+        Lookup::All(count) => enter_tree(names, starts, heads, next, n, text, count, tree),
     }
 }
 
@@ -189,7 +189,7 @@ fn read_named(
     text: &[u8],
     tree: &mut [u16],
 ) -> Answer
-    requires { ⌜ Known (now names) (now starts) (now heads) (now next) n ⌝ }
+    requires { ⌜ NamesIndexed (now names) (now starts) (now heads) (now next) n ⌝ }
     requires { ⌜ n ≡ howManyNames (now names) ⌝ }
     ensures { λ r. ⌜ Gave (readNamed (now (names .entry)) (now (text .entry)) (length (now (tree .entry)))) (entriesOf (now (names .entry)) (now (text .entry))) (now (tree .entry)) (now (tree .exit)) r ⌝ }
 {
@@ -210,8 +210,8 @@ pub fn read_term(names: &[u8], text: &[u8], tree: &mut [u16]) -> Answer
     let mut heads = [0u16; 512];
     let mut next = [0u16; 256];
     match check_names(names, &mut starts, &mut heads, &mut next) {
-        Names::Faulty(line) => Answer::Refused(refuse(Kind::FaultyNames, line as u64)),
-        Names::Sound(n) => read_named(names, &starts, &heads, &next, n, text, tree),
+        NamesCheck::Faulty(line) => Answer::Refused(refuse(Kind::FaultyNames, line as u64)),
+        NamesCheck::Sound(n) => read_named(names, &starts, &heads, &next, n, text, tree),
     }
 }
 
@@ -243,7 +243,7 @@ fn mark_after(e: u16) -> u8
 fn entry_length(names: &[u8], starts: &[u16; 256], n: usize, mark: u8, e: u16) -> usize
     requires { ⌜ Lined (now names) (now starts) n ⌝ }
     requires { ⌜ e ≤ n ⌝ }
-    ensures { λ r. ⌜ (r ≡ length (lettering (now (names .entry)) mark e)) × (r ≤ 25) ⌝ }
+    ensures { λ r. ⌜ (r ≡ length (entryText (now (names .entry)) mark e)) × (r ≤ 25) ⌝ }
 {
     if e == 0 {
         if mark == 44 {
@@ -262,7 +262,7 @@ fn entry_length(names: &[u8], starts: &[u16; 256], n: usize, mark: u8, e: u16) -
 fn text_length(names: &[u8], starts: &[u16; 256], n: usize, tree: &[u16]) -> usize
     requires { ⌜ Lined (now names) (now starts) n ⌝ }
     requires { ⌜ AllNamed n (now tree) ⌝ }
-    ensures { λ r. ⌜ r ≡ length (lettered (now (names .entry)) 0 (now (tree .entry))) ⌝ }
+    ensures { λ r. ⌜ r ≡ length (entriesText (now (names .entry)) 0 (now (tree .entry))) ⌝ }
 {
     let mut sum: usize = 0;
     let mut mark: u8 = 0;
@@ -290,7 +290,7 @@ pub fn put_bytes(text: &mut [u8], at: usize, bytes: &[u8]) -> usize
 }
 
 // Puts the bytes of an entry at a place; gives the place after them.
-fn put_entry(
+fn put_entry_text(
     names: &[u8],
     starts: &[u16; 256],
     n: usize,
@@ -301,8 +301,8 @@ fn put_entry(
 ) -> usize
     requires { ⌜ Lined (now names) (now starts) n ⌝ }
     requires { ⌜ e ≤ n ⌝ }
-    requires { ⌜ at + length (lettering (now names) mark e) ≤ length (now text) ⌝ }
-    ensures { λ r. ⌜ Put (now (text .entry)) (now (text .exit)) (lettering (now (names .entry)) mark e) at r ⌝ }
+    requires { ⌜ at + length (entryText (now names) mark e) ≤ length (now text) ⌝ }
+    ensures { λ r. ⌜ Put (now (text .entry)) (now (text .exit)) (entryText (now (names .entry)) mark e) at r ⌝ }
 {
     if e == 0 {
         if mark == 44 {
@@ -323,22 +323,22 @@ fn put_entry(
 fn put_text(names: &[u8], starts: &[u16; 256], n: usize, tree: &[u16], text: &mut [u8])
     requires { ⌜ Lined (now names) (now starts) n ⌝ }
     requires { ⌜ AllNamed n (now tree) ⌝ }
-    requires { ⌜ length (lettered (now names) 0 (now tree)) ≤ length (now text) ⌝ }
-    ensures { λ r. ⌜ Front (now (text .entry)) (now (text .exit)) (lettered (now (names .entry)) 0 (now (tree .entry))) ⌝ }
+    requires { ⌜ length (entriesText (now names) 0 (now tree)) ≤ length (now text) ⌝ }
+    ensures { λ r. ⌜ Front (now (text .entry)) (now (text .exit)) (entriesText (now (names .entry)) 0 (now (tree .entry))) ⌝ }
 {
     let mut at: usize = 0;
     let mut mark: u8 = 0;
     let mut i: usize = 0;
     while i < tree.len() {
         let e = tree[i];
-        at = put_entry(names, starts, n, mark, e, &mut *text, at);
+        at = put_entry_text(names, starts, n, mark, e, &mut *text, at);
         mark = mark_after(e);
         i += 1;
     }
 }
 
 // Writes the term of a tree whose symbols are all named, where there is room.
-fn write_letters(
+fn write_fitting(
     names: &[u8],
     starts: &[u16; 256],
     n: usize,
@@ -373,7 +373,7 @@ fn write_formed(
 {
     match first_unnamed(tree, n) {
         Found::At(place) => Answer::Refused(refuse(Kind::UnnamedSymbol, place as u64)),
-        Found::Nothing => write_letters(names, starts, n, tree, text),
+        Found::Nothing => write_fitting(names, starts, n, tree, text),
     }
 }
 
@@ -397,7 +397,7 @@ pub fn write_term(names: &[u8], tree: &[u16], text: &mut [u8]) -> Answer
     let mut heads = [0u16; 512];
     let mut next = [0u16; 256];
     match check_names(names, &mut starts, &mut heads, &mut next) {
-        Names::Faulty(line) => Answer::Refused(refuse(Kind::FaultyNames, line as u64)),
-        Names::Sound(n) => write_named(names, &starts, n, tree, text),
+        NamesCheck::Faulty(line) => Answer::Refused(refuse(Kind::FaultyNames, line as u64)),
+        NamesCheck::Sound(n) => write_named(names, &starts, n, tree, text),
     }
 }

@@ -13,9 +13,9 @@ use borrow.Author.Tests.{lt-ltb, le-ltb, eq-eqb, ne-eqb, ltb-true, ltb-false}
 use Rattle.model.specs.Answers.{Outcome, result, refused, refusedBy}
 use Rattle.model.specs.Choice.{if_then_else_}
 use Rattle.model.specs.Tree.{WellFormed}
-use Rattle.model.specs.Entries.{openAfter, openAt, entryGround, endsTooSoon, formOr, treeOr}
+use Rattle.model.specs.Entries.{openAfter, openAt, entryGround, endsTooSoon, formThen, treeThen}
 use Rattle.model.proofs.Choice.{no-fault, fault-refused, none-more, or-left, or-right}
-use Rattle.model.proofs.Entries.{open-append, tree-or-back}
+use Rattle.model.proofs.Entries.{open-append, tree-then-back}
 use Rattle.model.specs.declared.Refusal.{Refusal}
 use Rattle.tree.specs.Reading.{fresh, stepOf, Decides}
 use Rattle.tree.specs.declared.Reading.{Reading}
@@ -102,8 +102,8 @@ module _ {tree : List ℕ} {s : Reading} {i : ℕ} (r : Read tree s i) (l : i < 
       went n true (t .0) (t .1) (ap (λ (x : Reading). x .depth) (t .2)) (ap (λ (x : Reading). x .begun) (t .2))
 
   -- the entry is refused: it is the place of 13
-  pub refused-here : stepOf s (getD tree i 0) ≡ Refuses → (o : Outcome) → refused 13 i ≡ treeOr tree o
-  unfolding stepOf treeOr formOr
+  pub refused-here : stepOf s (getD tree i 0) ≡ Refuses → (o : Outcome) → refused 13 i ≡ treeThen tree o
+  unfolding stepOf treeThen formThen
   refused-here e o =
       let t = refuses-by (refusing (s .depth) (getD tree i 0) (s .begun)) (eqb (getD tree i 0) 0) _ _ e in
       let g : entryGround tree i ≡ 13 = rw t at ground-is in
@@ -123,14 +123,14 @@ module _ {tree : List ℕ} {s : Reading} {i : ℕ} (r : Read tree s i) (ge : len
   depth-end : s .depth ≡ openAfter 0 tree
   depth-end = r .depth-is ∙ ap (λ (xs : List ℕ). openAfter 0 xs) (take-all i tree ge)
 
-  after : (o : Outcome) → treeOr tree o ≡ (if endsTooSoon tree then refused 13 (length tree) else o)
-  unfolding treeOr formOr
+  after : (o : Outcome) → treeThen tree o ≡ (if endsTooSoon tree then refused 13 (length tree) else o)
+  unfolding treeThen formThen
   after o =
       let long : ltb 4096 (length tree) ≡ false = le-ltb 4096 (length tree) (r .few) in
       let all : (j : ℕ) → j < length tree → entryGround tree j ≡ 0 = λ j m. r .sound j (omega (arith, full)) in
       rw long (no-fault (length tree) (entryGround tree) (if endsTooSoon tree then refused 13 (length tree) else o) all)
 
-  pub is-tree : s .begun ≡ true → s .depth ≡ 0 → (o : Outcome) → o ≡ treeOr tree o
+  pub is-tree : s .begun ≡ true → s .depth ≡ 0 → (o : Outcome) → o ≡ treeThen tree o
   unfolding endsTooSoon
   is-tree b d o =
       let some = ltb-true 0 i (sym (r .begun-is) ∙ b) in
@@ -138,7 +138,7 @@ module _ {tree : List ℕ} {s : Reading} {i : ℕ} (r : Read tree s i) (ge : len
       let low : ltb 0 (openAfter 0 tree) ≡ false = le-ltb 0 (openAfter 0 tree) (omega (arith, depth-end, d)) in
       sym (rw (none, low) at (after o))
 
-  pub too-soon : (s .begun ≡ false) ⊎ (0 < s .depth) → (o : Outcome) → refused 13 i ≡ treeOr tree o
+  pub too-soon : (s .begun ≡ false) ⊎ (0 < s .depth) → (o : Outcome) → refused 13 i ≡ treeThen tree o
   unfolding endsTooSoon
   too-soon c o = rw full (sym (after o ∙ ap (λ (b : Bool). if b then refused 13 (length tree) else o) (ends c)))
     where
@@ -147,17 +147,17 @@ module _ {tree : List ℕ} {s : Reading} {i : ℕ} (r : Read tree s i) (ge : len
       ends (inr p) = or-right (eqb (length tree) 0) (ltb 0 (openAfter 0 tree)) (lt-ltb 0 (openAfter 0 tree) (omega (arith, depth-end)))
 
 -- more than 4,096 entries
-pub too-long : (tree : List ℕ) → 4096 < length tree → (o : Outcome) → refused 12 0 ≡ treeOr tree o
-unfolding treeOr
+pub too-long : (tree : List ℕ) → 4096 < length tree → (o : Outcome) → refused 12 0 ≡ treeThen tree o
+unfolding treeThen
 too-long tree l o = rw (lt-ltb 4096 (length tree) l)
 
 -- what the answer says: 12 or 13, or a tree of at most 4,096 entries
 module _ {tree : List ℕ} {f : Form} (d : Decides tree f) where
-  pub list-refused : (r : Refusal) → f ≡ RefusesList r → (o : Outcome) → refusedBy r ≡ treeOr tree o
+  pub list-refused : (r : Refusal) → f ≡ RefusesList r → (o : Outcome) → refusedBy r ≡ treeThen tree o
   list-refused r e o = rw e at (d .decided o)
 
-  pub list-taken : f ≡ Tree → (o : Outcome) → o ≡ treeOr tree o
+  pub list-taken : f ≡ Tree → (o : Outcome) → o ≡ treeThen tree o
   list-taken e o = rw e at (d .decided o)
 
   pub list-well : f ≡ Tree → WellFormed tree × (length tree ≤ 4096)
-  list-well e = let b = tree-or-back tree 0 (result 0) (sym (list-taken e (result 0))) in (b .0, b .1)
+  list-well e = let b = tree-then-back tree 0 (result 0) (sym (list-taken e (result 0))) in (b .0, b .1)

@@ -6,7 +6,7 @@ use mathlib.Core.List.{List}
 use lib.Dec.{eqb, ltb}
 use Rattle.model.specs.Answers.{Outcome, refusedBy}
 use Rattle.model.specs.Choice.{if_then_else_}
-use Rattle.model.specs.Entries.{treeOr}
+use Rattle.model.specs.Entries.{treeThen}
 use Rattle.tree.specs.declared.Reading.{Reading}
 use Rattle.tree.specs.declared.Step.{Step}
 use Rattle.tree.specs.declared.Step.the-variants.{Opens, Closes, Refuses}
@@ -24,10 +24,10 @@ stepOf r e =
     Opens (record { depth = r .depth + 1; begun = true })
 
 -- the refusal, or where the list is a tree what follows
-abbrev pub formThen : Form → Outcome → Outcome
-formThen Tree otherwise = otherwise
-formThen (RefusesList r) otherwise = refusedBy r
+abbrev pub formCheckThen : Form → Outcome → Outcome
+formCheckThen Tree otherwise = otherwise
+formCheckThen (RefusesList r) otherwise = refusedBy r
 
 -- the answer decides 12 and 13
 pub record Decides (entries : List ℕ) (f : Form) : Type 0 where
-  pub decided : (o : Outcome) → formThen f o ≡ treeOr entries o
+  pub decided : (o : Outcome) → formCheckThen f o ≡ treeThen entries o

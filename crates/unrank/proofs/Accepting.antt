@@ -14,7 +14,7 @@ use Rattle.model.proofs.Counting.{getD-map, sum-take-suc}
 use Rattle.model.proofs.Values.{find-at}
 use Rattle.counts.specs.States.{held}
 use Rattle.unrank.specs.declared.Spot.{Spot}
-use Rattle.unrank.specs.Trees.{Listed, spotOf}
+use Rattle.unrank.specs.Trees.{ListReady, spotOf}
 
 -- the entries before i are passed
 pub record Seeking (accepting counts : List ℕ) (number i rest q : ℕ) : Type 0 where
@@ -22,7 +22,7 @@ pub record Seeking (accepting counts : List ℕ) (number i rest q : ℕ) : Type 
   pub here : q ≡ getD accepting i 0
   pub passed : sum (take i (map (held counts) accepting)) + rest ≡ number
 
-module _ {accepting counts : List ℕ} {number : ℕ} (x : Listed accepting counts number) where
+module _ {accepting counts : List ℕ} {number : ℕ} (x : ListReady accepting counts number) where
   pub some-listed : 0 < length accepting
   unfolding sum
   some-listed = go accepting (x .less)

@@ -11,13 +11,13 @@ use Rattle.model.specs.Value.{Picked, findBy, childrenFrom, treeIn, treeOf}
 use Rattle.model.specs.Write.{treeEntries, entriesFor}
 use Rattle.model.proofs.Good.{AllBelow, below-first, below-rest, Ordered}
 use Rattle.model.proofs.Counting.{getD-any, getD-map, map-agree, rowCounts-local, weight-local}
-use Rattle.model.proofs.Values.{Found, found, found-args, depth-free}
+use Rattle.model.proofs.Values.{FindsAt, found, found-args, depth-free}
 use Rattle.counts.specs.States.{held}
 use Rattle.unrank.specs.declared.Spot.{Spot}
-use Rattle.unrank.specs.Ready.{Ready, Valued}
-use Rattle.unrank.specs.Trees.{entriesIn, Listed, spotOf}
-use Rattle.unrank.specs.Written.{entriesOf}
-use Rattle.unrank.proofs.Ready.{good, ordered, few, total-held}
+use Rattle.unrank.specs.UnrankReady.{UnrankReady, ValueReady}
+use Rattle.unrank.specs.Trees.{valueEntries, ListReady, spotOf}
+use Rattle.unrank.specs.Written.{numberEntries}
+use Rattle.unrank.proofs.UnrankReady.{good, ordered, few, total-held}
 
 -- ---- counts that are the same for the states below give the same trees
 
@@ -52,7 +52,7 @@ tree-agree rows o c d (suc depth) q h e =
 
 -- ---- a number below the total
 
-module _ {states : ℕ} {rows accepting : List ℕ} {total : ℕ} {offsets first after counts sums : List ℕ} (x : Ready states rows accepting total offsets first after counts sums)
+module _ {states : ℕ} {rows accepting : List ℕ} {total : ℕ} {offsets first after counts sums : List ℕ} (x : UnrankReady states rows accepting total offsets first after counts sums)
     (number : ℕ) (less : number < total) where
   abbrev c : ℕ → ℕ
   c = count (tableOf states rows accepting)
@@ -60,10 +60,10 @@ module _ {states : ℕ} {rows accepting : List ℕ} {total : ℕ} {offsets first
   abbrev ws : List ℕ
   ws = map (held counts) accepting
 
-  pub listed : Listed accepting counts number
+  pub listed : ListReady accepting counts number
   listed = record { states = λ i l. omega (arith, good x .sound .listed i l, few x); less = omega (arith, total-held x) }
 
-  finds : Found ws number (findBy ws number)
+  finds : FindsAt ws number (findBy ws number)
   finds = found ws number (listed .less)
 
   inside : findBy ws number .which < length accepting
@@ -75,7 +75,7 @@ module _ {states : ℕ} {rows accepting : List ℕ} {total : ℕ} {offsets first
   state : q < states
   state = good x .sound .listed (findBy ws number .which) inside
 
-  pub spot-valued : (s : Spot) → s ≡ spotOf accepting counts number → Valued rows offsets first after counts sums (s .state) (s .value)
+  pub spot-valued : (s : Spot) → s ≡ spotOf accepting counts number → ValueReady rows offsets first after counts sums (s .state) (s .value)
   spot-valued s e = rw e (record {
     states = states;
     accepting = accepting;
@@ -86,8 +86,8 @@ module _ {states : ℕ} {rows accepting : List ℕ} {total : ℕ} {offsets first
   })
 
   -- the entries are those of document 01
-  pub entries-same : entriesOf rows accepting counts number ≡ entriesFor states rows accepting number
-  unfolding entriesOf entriesIn entriesFor treeEntries treeOf
+  pub entries-same : numberEntries rows accepting counts number ≡ entriesFor states rows accepting number
+  unfolding numberEntries valueEntries entriesFor treeEntries treeOf
   entries-same =
       let v = findBy ws number .rest in
       ap serial

@@ -13,9 +13,9 @@ use Rattle.model.proofs.Values.{Share, share}
 use Rattle.counts.specs.States.{held}
 use Rattle.unrank.specs.declared.Entered.{Entered}
 use Rattle.unrank.specs.declared.Child.{Child}
-use Rattle.unrank.specs.Ready.{Valued}
-use Rattle.unrank.specs.Trees.{Enters, Shared, childOf, entriesIn}
-use Rattle.unrank.proofs.Ready.{few, ordered}
+use Rattle.unrank.specs.UnrankReady.{ValueReady}
+use Rattle.unrank.specs.Trees.{Enters, Shared, childOf, valueEntries}
+use Rattle.unrank.proofs.UnrankReady.{few, ordered}
 use Rattle.unrank.proofs.Trees.{kidsIn, entries-are, kids-none, kids-next, short}
 
 -- the children from k on count w together, and h is left for them
@@ -24,7 +24,7 @@ pub record Going (counts : List ℕ) (q : ℕ) (args : List ℕ) (w h k : ℕ) :
   pub weighs : w ≡ product (map (held counts) (drop k args))
   pub falls : h < w
 
-module _ {rows offsets first after counts sums : List ℕ} {q value : ℕ} (x : Valued rows offsets first after counts sums q value) where
+module _ {rows offsets first after counts sums : List ℕ} {q value : ℕ} (x : ValueReady rows offsets first after counts sums q value) where
   module _ {e : Entered} (y : Enters rows counts q value e) where
     pub row-whole : Whole rows (e .at)
     row-whole = rw (y .begins) (x .ready .laid .whole (y .row) (y .inside))
@@ -53,14 +53,14 @@ module _ {rows offsets first after counts sums : List ℕ} {q value : ℕ} (x : 
     pub shared : Shared args counts k w
     shared = record { inside = lt; state = omega (arith, g .below k lt, x .state, few (x .ready)); some = shares .counts; others = shares .positive }
 
-    kids-are : kidsIn rows counts q (drop k args) w h ≡ entriesIn rows counts a (h / w′) ++ kidsIn rows counts q (drop (k + 1) args) w′ (h % w′)
+    kids-are : kidsIn rows counts q (drop k args) w h ≡ valueEntries rows counts a (h / w′) ++ kidsIn rows counts q (drop (k + 1) args) w′ (h % w′)
     kids-are = ap (λ (l : List ℕ). kidsIn rows counts q l w h) (drop-next args k lt) ∙ kids-next rows counts q (ordered (x .ready)) a (g .below k lt) (drop (k + 1) args) w h
 
     module _ (c : Child) (e : c ≡ childOf args counts k w h) where
       pub child-lower : c .state < q
       child-lower = rw e (g .below k lt)
 
-      pub child-valued : Valued rows offsets first after counts sums (c .state) (c .value)
+      pub child-valued : ValueReady rows offsets first after counts sums (c .state) (c .value)
       child-valued = rw e (record {
         states = x .states;
         accepting = x .accepting;
@@ -73,7 +73,7 @@ module _ {rows offsets first after counts sums : List ℕ} {q value : ℕ} (x : 
       pub going-next : Going counts q args (c .weight) (c .rest) (k + 1)
       going-next = rw e (record { below = g .below; weighs = shares .leaves; falls = shares .remains })
 
-      pub kids-turn : kidsIn rows counts q (drop k args) w h ≡ entriesIn rows counts (c .state) (c .value) ++ kidsIn rows counts q (drop (k + 1) args) (c .weight) (c .rest)
+      pub kids-turn : kidsIn rows counts q (drop k args) w h ≡ valueEntries rows counts (c .state) (c .value) ++ kidsIn rows counts q (drop (k + 1) args) (c .weight) (c .rest)
       kids-turn = rw e kids-are
 
 -- no child is left
@@ -83,9 +83,9 @@ kids-end rows counts q args w h k ge = ap (λ (l : List ℕ). kidsIn rows counts
 -- the entries of the children before k are counted, with the symbol and the bar
 pub record Measuring (rows counts : List ℕ) (q value : ℕ) (args : List ℕ) (w h n k : ℕ) : Type 0 where
   pub going : Going counts q args w h k
-  pub sum : n + length (kidsIn rows counts q (drop k args) w h) ≡ length (entriesIn rows counts q value)
+  pub sum : n + length (kidsIn rows counts q (drop k args) w h) ≡ length (valueEntries rows counts q value)
 
-module _ {rows offsets first after counts sums : List ℕ} {q value : ℕ} (x : Valued rows offsets first after counts sums q value) where
+module _ {rows offsets first after counts sums : List ℕ} {q value : ℕ} (x : ValueReady rows offsets first after counts sums q value) where
   pub measure-begins : {e : Entered} → Enters rows counts q value e → (args : List ℕ) → args ≡ argsAt rows (e .at) → Measuring rows counts q value args (e .weight) (e .rest) 2 0
   measure-begins {e} y args h = record {
     going = going-begins x y args h;
@@ -94,7 +94,7 @@ module _ {rows offsets first after counts sums : List ℕ} {q value : ℕ} (x : 
   }
 
   module _ {args : List ℕ} {w h n k : ℕ} (m : Measuring rows counts q value args w h n k) where
-    module _ (lt : k < length args) (c : Child) (e : c ≡ childOf args counts k w h) (r : ℕ) (o : r ≡ length (entriesIn rows counts (c .state) (c .value))) where
+    module _ (lt : k < length args) (c : Child) (e : c ≡ childOf args counts k w h) (r : ℕ) (o : r ≡ length (valueEntries rows counts (c .state) (c .value))) where
       pub measure-next : Measuring rows counts q value args (c .weight) (c .rest) (n + r) (k + 1)
       measure-next = record {
         going = going-next x (m .going) lt c e;
@@ -103,12 +103,12 @@ module _ {rows offsets first after counts sums : List ℕ} {q value : ℕ} (x : 
           m .sum,
           o,
           ap length (kids-turn x (m .going) lt c e),
-          length-append (entriesIn rows counts (c .state) (c .value)) (kidsIn rows counts q (drop (k + 1) args) (c .weight) (c .rest)),
+          length-append (valueEntries rows counts (c .state) (c .value)) (kidsIn rows counts q (drop (k + 1) args) (c .weight) (c .rest)),
         );
       }
 
       pub measure-small : n + r ≤ 4096
       measure-small = omega (arith, measure-next .sum, short x)
 
-    pub measure-ends : length args ≤ k → n ≡ length (entriesIn rows counts q value)
+    pub measure-ends : length args ≤ k → n ≡ length (valueEntries rows counts q value)
     measure-ends ge = omega (arith, m .sum, ap length (kids-end rows counts q args w h k ge))

@@ -1,4 +1,4 @@
-pub mod Ready
+pub mod UnrankReady
 pub mod Rows
 pub mod Trees
 pub mod Children

@@ -19,9 +19,9 @@ use Rattle.table.specs.declared.Checked.{Checked}
 use Rattle.table.specs.declared.Checked.the-variants.{Sound, Refuses}
 use Rattle.table.specs.Checked.{told, CheckAnswer}
 use Rattle.unrank.specs.declared.Spot.{Spot}
-use Rattle.unrank.specs.Trees.{entriesIn, Wrote, spotOf}
-use Rattle.unrank.specs.Written.{entriesOf, fitsIn, WroteNumber, WroteTree}
-use Rattle.unrank.proofs.Ready.{checks, ready}
+use Rattle.unrank.specs.Trees.{valueEntries, Wrote, spotOf}
+use Rattle.unrank.specs.Written.{numberEntries, fitsIn, WroteNumber, WroteTree}
+use Rattle.unrank.proofs.UnrankReady.{checks, ready}
 use Rattle.unrank.proofs.Agree.{entries-same}
 
 -- ---- a number below the total
@@ -30,32 +30,32 @@ abbrev gives : (written old : List ℕ) → Outcome
 gives written old = fitsIn (length old) (length written)
 
 module _ (rows accepting counts : List ℕ) (number : ℕ) (s : Spot) (e : s ≡ spotOf accepting counts number) where
-  spot-entries : entriesIn rows counts (s .state) (s .value) ≡ entriesOf rows accepting counts number
-  unfolding entriesOf
+  spot-entries : valueEntries rows counts (s .state) (s .value) ≡ numberEntries rows accepting counts number
+  unfolding numberEntries
   spot-entries = rw e
 
-  needed-is : (n : ℕ) → n ≡ length (entriesIn rows counts (s .state) (s .value)) → n ≡ length (entriesOf rows accepting counts number)
+  needed-is : (n : ℕ) → n ≡ length (valueEntries rows counts (s .state) (s .value)) → n ≡ length (numberEntries rows accepting counts number)
   needed-is n o = o ∙ ap length spot-entries
 
-  pub number-short : (n : ℕ) (old : List ℕ) (r : Answer) → n ≡ length (entriesIn rows counts (s .state) (s .value)) → length old < n → outcome r ≡ refused 16 n
+  pub number-short : (n : ℕ) (old : List ℕ) (r : Answer) → n ≡ length (valueEntries rows counts (s .state) (s .value)) → length old < n → outcome r ≡ refused 16 n
       → WroteNumber rows accepting counts number old old r
   number-short n old r o l a =
       let z = needed-is n o in
-      let f : gives (entriesOf rows accepting counts number) old ≡ refused 16 (length (entriesOf rows accepting counts number)) = rw (lt-ltb (length old) (length (entriesOf rows accepting counts number)) (omega arith)) in
-      record { answer = a ∙ ap (λ (k : ℕ). refused 16 k) z ∙ sym f; list = sym (ap (λ (o : Outcome). lentAfter o (entriesOf rows accepting counts number) old) f) }
+      let f : gives (numberEntries rows accepting counts number) old ≡ refused 16 (length (numberEntries rows accepting counts number)) = rw (lt-ltb (length old) (length (numberEntries rows accepting counts number)) (omega arith)) in
+      record { answer = a ∙ ap (λ (k : ℕ). refused 16 k) z ∙ sym f; list = sym (ap (λ (o : Outcome). lentAfter o (numberEntries rows accepting counts number) old) f) }
 
-  pub number-fits : (n m : ℕ) (old new : List ℕ) (r : Answer) → n ≡ length (entriesIn rows counts (s .state) (s .value)) → n ≤ length old → outcome r ≡ result n
+  pub number-fits : (n m : ℕ) (old new : List ℕ) (r : Answer) → n ≡ length (valueEntries rows counts (s .state) (s .value)) → n ≤ length old → outcome r ≡ result n
       → Wrote rows counts (s .state) (s .value) old new m → WroteNumber rows accepting counts number old new r
   number-fits n m old new r o l a w =
       let z = needed-is n o in
-      let f : gives (entriesOf rows accepting counts number) old ≡ result (length (entriesOf rows accepting counts number)) = rw (le-ltb (length old) (length (entriesOf rows accepting counts number)) (omega arith)) in
+      let f : gives (numberEntries rows accepting counts number) old ≡ result (length (numberEntries rows accepting counts number)) = rw (le-ltb (length old) (length (numberEntries rows accepting counts number)) (omega arith)) in
       record {
         answer = a ∙ ap result z ∙ sym f;
         list =
             w .holds
-            ∙ ap (λ (k : ℕ). entriesIn rows counts (s .state) (s .value) ++ drop k old) (w .many)
+            ∙ ap (λ (k : ℕ). valueEntries rows counts (s .state) (s .value) ++ drop k old) (w .many)
             ∙ ap (λ (l : List ℕ). l ++ drop (length l) old) spot-entries
-            ∙ sym (ap (λ (o : Outcome). lentAfter o (entriesOf rows accepting counts number) old) f);
+            ∙ sym (ap (λ (o : Outcome). lentAfter o (numberEntries rows accepting counts number) old) f);
       }
 
 -- ---- the whole
@@ -95,7 +95,7 @@ module _ {states : ℕ} {rows accepting offsets heads next first after counts lo
     pub write-below : (r : Answer) (new : List ℕ) → number < total → WroteNumber rows accepting counts number old new r → WroteTree states rows accepting number old new r
     write-below r new l w =
         let s = entries-same (ready c total n e) number l in
-        let g : gives (entriesOf rows accepting counts number) old ≡ gives (entriesFor states rows accepting number) old = ap (λ (l : List ℕ). gives l old) s in
+        let g : gives (numberEntries rows accepting counts number) old ≡ gives (entriesFor states rows accepting number) old = ap (λ (l : List ℕ). gives l old) s in
         let b : below states rows accepting number old total ≡ gives (entriesFor states rows accepting number) old = rw (lt-ltb number total l) in
         told-so states rows accepting number old new r (gives (entriesFor states rows accepting number) old) (w .answer ∙ g) (sym b ∙ follows)
         (w .list ∙ ap (λ (l : List ℕ). lentAfter (gives l old) l old) s)

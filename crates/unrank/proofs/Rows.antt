@@ -14,9 +14,9 @@ use Rattle.counts.specs.States.{held}
 use Rattle.counts.proofs.Chain.{leads-row, leads-end}
 use Rattle.counts.proofs.States.{earlier-skip, earlier-more, all-earlier}
 use Rattle.unrank.specs.declared.Entered.{Entered}
-use Rattle.unrank.specs.Ready.{Valued}
+use Rattle.unrank.specs.UnrankReady.{ValueReady}
 use Rattle.unrank.specs.Trees.{Opening, openedAt, Enters}
-use Rattle.unrank.proofs.Ready.{counts-held, few}
+use Rattle.unrank.proofs.UnrankReady.{counts-held, few}
 
 -- what the rows of q before row i count together
 abbrev pub before : (rows counts : List ℕ) (q i : ℕ) → ℕ
@@ -40,7 +40,7 @@ unfolding earlierRows
 find-row rows counts q value i l m =
     find-at (map (weight (held counts) q) (rowsOf rows)) value i l (omega (arith, sum-take-suc (map (weight (held counts) q) (rowsOf rows)) i))
 
-module _ {rows offsets first after counts sums : List ℕ} {q value : ℕ} (x : Valued rows offsets first after counts sums q value) where
+module _ {rows offsets first after counts sums : List ℕ} {q value : ℕ} (x : ValueReady rows offsets first after counts sums q value) where
   -- all rows of the state together count more than the value
   all-above : value < before rows counts q (howManyRows rows)
   all-above = omega (arith, all-earlier rows counts [] q, counts-held (x .ready) .state q (x .state), x .less)

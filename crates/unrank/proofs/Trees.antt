@@ -14,9 +14,9 @@ use Rattle.model.proofs.Longest.{forest-most}
 use Rattle.model.proofs.Values.{children-none, children-next, depth-free, tree-valued}
 use Rattle.counts.specs.States.{held}
 use Rattle.unrank.specs.declared.Entered.{Entered}
-use Rattle.unrank.specs.Ready.{Valued}
-use Rattle.unrank.specs.Trees.{Enters, entriesIn}
-use Rattle.unrank.proofs.Ready.{good, within, counts-held}
+use Rattle.unrank.specs.UnrankReady.{ValueReady}
+use Rattle.unrank.specs.Trees.{Enters, valueEntries}
+use Rattle.unrank.proofs.UnrankReady.{good, within, counts-held}
 
 -- the entries of the children from some on
 unfoldable pub kidsIn : (rows counts : List ℕ) (q : ℕ) (args : List ℕ) (w h : ℕ) → List ℕ
@@ -45,8 +45,8 @@ tree-step rows c q value = refl
 
 -- a tree is its row's symbol, its children and the bar
 pub entries-are : {rows counts : List ℕ} {q value : ℕ} {e : Entered} (y : Enters rows counts q value e)
-    → entriesIn rows counts q value ≡ e .symbol ∷ kidsIn rows counts q (rowNumbered rows (y .row) .args) (e .weight) (e .rest) ++ 0 ∷ []
-unfolding entriesIn kidsIn
+    → valueEntries rows counts q value ≡ e .symbol ∷ kidsIn rows counts q (rowNumbered rows (y .row) .args) (e .weight) (e .rest) ++ 0 ∷ []
+unfolding valueEntries kidsIn
 entries-are {rows} {counts} {q} {value} {e} y =
     let c = held counts in
     let rs = rowsOf rows in
@@ -66,8 +66,8 @@ kids-none rows counts q w h = ap serialForest (children-none (held counts) (tree
 
 pub kids-next : (rows counts : List ℕ) (q : ℕ) → Ordered (rowsOf rows) → (a : ℕ) → a < q → (xs : List ℕ) (w h : ℕ)
     → kidsIn rows counts q (a ∷ xs) w h
-    ≡ entriesIn rows counts a (h / (w / held counts a)) ++ kidsIn rows counts q xs (w / held counts a) (h % (w / held counts a))
-unfolding kidsIn entriesIn
+    ≡ valueEntries rows counts a (h / (w / held counts a)) ++ kidsIn rows counts q xs (w / held counts a) (h % (w / held counts a))
+unfolding kidsIn valueEntries
 kids-next rows counts q o a l xs w h =
     let c = held counts in
     let rs = rowsOf rows in
@@ -78,8 +78,8 @@ kids-next rows counts q o a l xs w h =
     ∙ ap (λ (t : Tree). serial t ++ serialForest others) (depth-free rs o c q (suc a) a v l (omega arith))
 
 -- no tree is longer than document 01's limit
-pub short : {rows offsets first after counts sums : List ℕ} {q value : ℕ} → Valued rows offsets first after counts sums q value → length (entriesIn rows counts q value) ≤ 4096
-unfolding entriesIn serial sum
+pub short : {rows offsets first after counts sums : List ℕ} {q value : ℕ} → ValueReady rows offsets first after counts sums q value → length (valueEntries rows counts q value) ≤ 4096
+unfolding valueEntries serial sum
 short {rows} {counts = counts} {q} {value} x =
     let T = tableOf (x .states) rows (x .accepting) in
     let t = tree-valued T (good (x .ready) .sound) (held counts) (counts-held (x .ready)) (good (x .ready) .ordered) (suc q) q value (omega arith) (x .state) (x .less) in

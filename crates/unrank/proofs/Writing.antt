@@ -9,8 +9,8 @@ use Rattle.model.specs.Table.{argsAt}
 use Rattle.model.proofs.Writing.{Writing, writing-length, rest-fits, piece-fits, piece-written, writing-last, one-set}
 use Rattle.unrank.specs.declared.Entered.{Entered}
 use Rattle.unrank.specs.declared.Child.{Child}
-use Rattle.unrank.specs.Ready.{Valued}
-use Rattle.unrank.specs.Trees.{Enters, childOf, entriesIn, Wrote}
+use Rattle.unrank.specs.UnrankReady.{ValueReady}
+use Rattle.unrank.specs.Trees.{Enters, childOf, valueEntries, Wrote}
 use Rattle.unrank.proofs.Trees.{kidsIn, entries-are}
 use Rattle.unrank.proofs.Children.{Going, args-are, going-begins, going-next, kids-turn, kids-end}
 
@@ -55,7 +55,7 @@ module _ {old new all : List ℕ} {at x : ℕ} (w : Writing old new all (x ∷ [
 -- the children before k are written
 pub record WritingTree (rows counts : List ℕ) (q value : ℕ) (old args new : List ℕ) (w h at k : ℕ) : Type 0 where
   pub going : Going counts q args w h k
-  pub writes : Writing old new (entriesIn rows counts q value) (kidsIn rows counts q (drop k args) w h ++ 0 ∷ []) at
+  pub writes : Writing old new (valueEntries rows counts q value) (kidsIn rows counts q (drop k args) w h ++ 0 ∷ []) at
 
 -- the list keeps its length
 pub tree-kept : {rows counts : List ℕ} {q value : ℕ} {old args new : List ℕ} {w h at k : ℕ} → WritingTree rows counts q value old args new w h at k
@@ -63,27 +63,27 @@ pub tree-kept : {rows counts : List ℕ} {q value : ℕ} {old args new : List �
 tree-kept t out s e = writing-length (t .writes) ∙ ap length e ∙ length-set out 0 s
 
 -- a tree has an entry
-pub some-entry : {rows counts : List ℕ} {q value : ℕ} {e : Entered} → Enters rows counts q value e → 0 < length (entriesIn rows counts q value)
+pub some-entry : {rows counts : List ℕ} {q value : ℕ} {e : Entered} → Enters rows counts q value e → 0 < length (valueEntries rows counts q value)
 some-entry y = omega (arith, ap length (entries-are y))
 
-module _ {rows offsets first after counts sums : List ℕ} {q value : ℕ} (x : Valued rows offsets first after counts sums q value) where
-  pub tree-begins : {e : Entered} → Enters rows counts q value e → (args : List ℕ) → args ≡ argsAt rows (e .at) → (old : List ℕ) → length (entriesIn rows counts q value) ≤ length old
+module _ {rows offsets first after counts sums : List ℕ} {q value : ℕ} (x : ValueReady rows offsets first after counts sums q value) where
+  pub tree-begins : {e : Entered} → Enters rows counts q value e → (args : List ℕ) → args ≡ argsAt rows (e .at) → (old : List ℕ) → length (valueEntries rows counts q value) ≤ length old
       → WritingTree rows counts q value (set old 0 (e .symbol)) args (set old 0 (e .symbol)) (e .weight) (e .rest) 1 0
   tree-begins {e} y args h old l = record {
     going = going-begins x y args h;
-    writes = symbol-first old (e .symbol) (entriesIn rows counts q value) (kidsIn rows counts q args (e .weight) (e .rest) ++ 0 ∷ [])
+    writes = symbol-first old (e .symbol) (valueEntries rows counts q value) (kidsIn rows counts q args (e .weight) (e .rest) ++ 0 ∷ [])
         (entries-are y ∙ ap (λ (xs : List ℕ). e .symbol ∷ kidsIn rows counts q xs (e .weight) (e .rest) ++ 0 ∷ []) (sym (args-are x y args h))) l;
   }
 
   module _ {old args new : List ℕ} {w h at k : ℕ} (t : WritingTree rows counts q value old args new w h at k) where
     module _ (lt : k < length args) (c : Child) (e : c ≡ childOf args counts k w h) where
       abbrev piece : List ℕ
-      piece = entriesIn rows counts (c .state) (c .value)
+      piece = valueEntries rows counts (c .state) (c .value)
 
       abbrev others : List ℕ
       others = kidsIn rows counts q (drop (k + 1) args) (c .weight) (c .rest) ++ 0 ∷ []
 
-      turns : Writing old new (entriesIn rows counts q value) (piece ++ others) at
+      turns : Writing old new (valueEntries rows counts q value) (piece ++ others) at
       turns =
           rw (sym (append-assoc piece (kidsIn rows counts q (drop (k + 1) args) (c .weight) (c .rest)) (0 ∷ []))) (rw (kids-turn x (t .going) lt c e) at (t .writes))
 
@@ -98,7 +98,7 @@ module _ {rows offsets first after counts sums : List ℕ} {q value : ℕ} (x : 
       tree-next ys n o = record { going = going-next x (t .going) lt c e; writes = part-put piece others turns ys n (o .many) (o .holds) }
 
     module _ (ge : length args ≤ k) where
-      bar-left : Writing old new (entriesIn rows counts q value) (0 ∷ []) at
+      bar-left : Writing old new (valueEntries rows counts q value) (0 ∷ []) at
       bar-left = rw (kids-end rows counts q args w h k ge) at (t .writes)
 
       pub bar-fits : at < length new
@@ -108,5 +108,5 @@ module _ {rows offsets first after counts sums : List ℕ} {q value : ℕ} (x : 
       pub tree-ends : (out : List ℕ) (s : ℕ) → old ≡ set out 0 s → Wrote rows counts q value out (set new at 0) (at + 1)
       tree-ends out s z = record {
         many = last-place bar-left;
-        holds = last-put bar-left ∙ ap (λ (l : List ℕ). entriesIn rows counts q value ++ l) (ap (λ (l : List ℕ). drop (at + 1) l) z ∙ drop-set-lt (at + 1) out 0 s (omega arith));
+        holds = last-put bar-left ∙ ap (λ (l : List ℕ). valueEntries rows counts q value ++ l) (ap (λ (l : List ℕ). drop (at + 1) l) z ∙ drop-set-lt (at + 1) out 0 s (omega arith));
       }

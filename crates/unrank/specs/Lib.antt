@@ -1,3 +1,3 @@
-pub mod Ready
+pub mod UnrankReady
 pub mod Trees
 pub mod Written

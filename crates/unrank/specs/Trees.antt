@@ -50,16 +50,16 @@ childOf args counts k w h =
     record { state = a; value = h / w′; weight = w′; rest = h % w′ }
 
 -- the entries of the tree of a value in a state
-unfoldable pub entriesIn : (rows counts : List ℕ) (q value : ℕ) → List ℕ
-entriesIn rows counts q value = serial (treeIn (rowsOf rows) (held counts) (suc q) q value)
+unfoldable pub valueEntries : (rows counts : List ℕ) (q value : ℕ) → List ℕ
+valueEntries rows counts q value = serial (treeIn (rowsOf rows) (held counts) (suc q) q value)
 
 -- they are written at the front, n entries
 pub record Wrote (rows counts : List ℕ) (q value : ℕ) (old new : List ℕ) (n : ℕ) : Type 0 where
-  pub many : n ≡ length (entriesIn rows counts q value)
-  pub holds : new ≡ entriesIn rows counts q value ++ drop n old
+  pub many : n ≡ length (valueEntries rows counts q value)
+  pub holds : new ≡ valueEntries rows counts q value ++ drop n old
 
 -- the entries of the list are states that have a place, and the number is below what they count together
-pub record Listed (accepting counts : List ℕ) (number : ℕ) : Type 0 where
+pub record ListReady (accepting counts : List ℕ) (number : ℕ) : Type 0 where
   pub states : (i : ℕ) → i < length accepting → getD accepting i 0 < 256
   pub less : number < sum (map (held counts) accepting)
 

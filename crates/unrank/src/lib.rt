@@ -7,8 +7,8 @@ use table::Checked;
 ghost use mathlib.Core.Path.{_≡_};
 ghost use Prim.Native.Nat.{_≤_};
 ghost use lib.ListN.{length};
-ghost use Rattle.unrank.specs.Ready.{Valued, Numbered};
-ghost use Rattle.unrank.specs.Trees.{Opening, openedAt, Enters, Shared, childOf, entriesIn, Wrote, Listed, spotOf};
+ghost use Rattle.unrank.specs.UnrankReady.{ValueReady, NumberReady};
+ghost use Rattle.unrank.specs.Trees.{Opening, openedAt, Enters, Shared, childOf, valueEntries, Wrote, ListReady, spotOf};
 ghost use Rattle.unrank.specs.Written.{WroteNumber, WroteTree};
 
 // A row, entered with a value: its symbol, where it begins, what it counts, and what is left of the value in it.
@@ -65,7 +65,7 @@ fn find_row(
     q: usize,
     value: u64,
 ) -> Entered
-    requires { ⌜ Valued (now rows) (now offsets) (now first) (now after) (now counts) (now sums) q value ⌝ }
+    requires { ⌜ ValueReady (now rows) (now offsets) (now first) (now after) (now counts) (now sums) q value ⌝ }
     ensures { λ e. ⌜ Enters (now (rows .entry)) (now (counts .entry)) q value e ⌝ }
 {
     let mut r = wide(first[q]) - 1;
@@ -107,8 +107,8 @@ fn tree_length(
     q: usize,
     value: u64,
 ) -> usize
-    requires { ⌜ Valued (now rows) (now offsets) (now first) (now after) (now counts) (now sums) q value ⌝ }
-    ensures { λ n. ⌜ n ≡ length (entriesIn (now (rows .entry)) (now (counts .entry)) q value) ⌝ }
+    requires { ⌜ ValueReady (now rows) (now offsets) (now first) (now after) (now counts) (now sums) q value ⌝ }
+    ensures { λ n. ⌜ n ≡ length (valueEntries (now (rows .entry)) (now (counts .entry)) q value) ⌝ }
 {
     let row = find_row(rows, offsets, first, after, counts, sums, q, value);
     let args = rows::args_at(rows, row.at);
@@ -148,8 +148,8 @@ fn write_tree(
     value: u64,
     out: &mut [u16],
 ) -> usize
-    requires { ⌜ Valued (now rows) (now offsets) (now first) (now after) (now counts) (now sums) q value ⌝ }
-    requires { ⌜ length (entriesIn (now rows) (now counts) q value) ≤ length (now out) ⌝ }
+    requires { ⌜ ValueReady (now rows) (now offsets) (now first) (now after) (now counts) (now sums) q value ⌝ }
+    requires { ⌜ length (valueEntries (now rows) (now counts) q value) ≤ length (now out) ⌝ }
     ensures { λ n. ⌜ Wrote (now (rows .entry)) (now (counts .entry)) q value (now (out .entry)) (now (out .exit)) n ⌝ }
 {
     let row = find_row(rows, offsets, first, after, counts, sums, q, value);
@@ -183,7 +183,7 @@ fn write_tree(
 
 // The accepting state in which the number falls, by the sums, and the value that is left there.
 fn find_state(accepting: &[u16], counts: &[u64; 256], number: u64) -> Spot
-    requires { ⌜ Listed (now accepting) (now counts) number ⌝ }
+    requires { ⌜ ListReady (now accepting) (now counts) number ⌝ }
     ensures { λ s. ⌜ s ≡ spotOf (now (accepting .entry)) (now (counts .entry)) number ⌝ }
 {
     let mut i: usize = 0;
@@ -212,7 +212,7 @@ fn write_number(
     number: u64,
     tree: &mut [u16],
 ) -> Answer
-    requires { ⌜ Numbered (now rows) (now accepting) (now offsets) (now first) (now after) (now counts) (now sums) number ⌝ }
+    requires { ⌜ NumberReady (now rows) (now accepting) (now offsets) (now first) (now after) (now counts) (now sums) number ⌝ }
     ensures { λ r. ⌜ WroteNumber (now (rows .entry)) (now (accepting .entry)) (now (counts .entry)) number (now (tree .entry)) (now (tree .exit)) r ⌝ }
 {
     let spot = find_state(accepting, counts, number);

@@ -1,13 +1,13 @@
 -- The states below q are counted and none of them is faulty.
 use Prim.Native.Nat.{_≤_, _-_}
 use native.Mathlib.Omega.{arith}
-use Rattle.counts.specs.States.{Known}
+use Rattle.counts.specs.States.{CountsKnown}
 use Rattle.counts.proofs.All.{known-begins, countable, count-fault, length-fault, fault-found, known-more, all-known}
 use Rattle.counts.proofs.count_states.Statement.{statement}
 use Rattle.counts.proofs.count_states.Tie as tie
 
 abbrev Inv-loop : tie.InvT-loop
-Inv-loop states rows offsets first after counts₀ longest₀ sums₀ q₀ counts longest sums q = (q ≤ states) × Known states rows q counts longest sums
+Inv-loop states rows offsets first after counts₀ longest₀ sums₀ q₀ counts longest sums q = (q ≤ states) × CountsKnown states rows q counts longest sums
 
 abbrev μ-loop : tie.MeasureT-loop
 μ-loop states rows offsets first after counts₀ longest₀ sums₀ q₀ counts longest sums q = states - q

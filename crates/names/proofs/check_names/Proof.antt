@@ -3,7 +3,7 @@ use native.Mathlib.Omega.{arith}
 use mathlib.Core.Path.{_≡_, sym, _∙_}
 use lib.ListN.{length}
 use Rattle.chains.specs.declared.Found.the-variants.{At}
-use Rattle.names.specs.Listed.{nameEnd}
+use Rattle.names.specs.NamesIndex.{nameEnd}
 use Rattle.names.proofs.Lines.{Sofar, begins, too-many, no-name, fits, again, entered, short-end, no-lines-at-all, faulty-line, sound-list}
 use Rattle.names.proofs.check_names.Statement.{statement}
 use borrow.Author.Needs.{needs}

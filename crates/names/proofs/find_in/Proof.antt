@@ -4,7 +4,7 @@ use mathlib.Core.List.{List}
 use Prim.Native.Nat.{ℕ, _-_}
 use Rattle.model.specs.Names.{sameName}
 use Rattle.chains.proofs.Chains.{Walk, walk-begins, walk-goes, walk-finds, walk-ends}
-use Rattle.names.specs.Listed.{bucketOf}
+use Rattle.names.specs.NamesIndex.{bucketOf}
 use Rattle.names.proofs.Lines.{sought, name-bucket, no-earlier}
 use Rattle.names.proofs.find_in.Statement.{statement}
 use borrow.Author.Needs.{needs}

@@ -5,7 +5,7 @@ use lib.ListN.{length, drop}
 use native.Mathlib.Nat.{mod-lt}
 use Rattle.chains.specs.Hash.{mixAll, spread}
 use Rattle.chains.proofs.Hash.{mix-step, mix-end}
-use Rattle.names.specs.Listed.{hashOf}
+use Rattle.names.specs.NamesIndex.{hashOf}
 use Rattle.names.proofs.hash.Statement.{statement}
 use borrow.Author.Needs.{needs}
 use Rattle.names.proofs.hash.Tie as tie

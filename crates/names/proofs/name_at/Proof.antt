@@ -1,6 +1,6 @@
 use native.Mathlib.Omega.{arith}
 use Rattle.names.proofs.Lines.{part-of}
-use Rattle.names.specs.Listed.{Stands}
+use Rattle.names.specs.NamesIndex.{Stands}
 use Rattle.model.specs.Names.{lineAt}
 use borrow.Author.Needs.{needs}
 use Rattle.names.proofs.name_at.Statement.{statement}

@@ -3,7 +3,7 @@ use native.Mathlib.Nat.{pos-of-ne-zero}
 use mathlib.Core.Path.{_≡_, sym, ap, _∙_}
 use lib.ListN.{length}
 use Rattle.model.specs.Names.{nameOf}
-use Rattle.term.proofs.Lettering.{letter-close, letter-bar, letter-name, letter-mark, name-line, name-short}
+use Rattle.term.proofs.EntryText.{letter-close, letter-bar, letter-name, letter-mark, name-line, name-short}
 use borrow.Author.Needs.{needs}
 use Rattle.term.proofs.entry_length.Statement.{statement}
 use Rattle.term.proofs.entry_length.Tie as tie

@@ -5,7 +5,7 @@ use mathlib.Core.List.{List}
 use lib.ListN.{length, set, getD}
 use lib.Seq.{paste, paste-zero, paste-suc, length-paste}
 use native.Mathlib.Numerals.{add-one}
-use Rattle.term.proofs.Lettering.{pasted}
+use Rattle.term.proofs.EntryText.{pasted}
 use Rattle.term.proofs.put_bytes.Statement.{statement}
 use borrow.Author.Needs.{needs}
 use Rattle.term.proofs.put_bytes.Tie as tie

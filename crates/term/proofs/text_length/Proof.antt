@@ -1,7 +1,7 @@
 use Prim.Native.Nat.{_-_}
 use native.Mathlib.Omega.{arith}
 use lib.ListN.{length}
-use Rattle.term.proofs.Lettering.{Summed, sum-first, sum-next, sum-last}
+use Rattle.term.proofs.EntryText.{Summed, sum-first, sum-next, sum-last}
 use Rattle.term.proofs.text_length.Statement.{statement}
 use borrow.Author.Needs.{needs}
 use Rattle.term.proofs.text_length.Tie as tie

@@ -1,5 +1,5 @@
 use Rattle.table.proofs.Blank.{blank}
-use Rattle.unrank.proofs.Ready.{ready}
+use Rattle.unrank.proofs.UnrankReady.{ready}
 use Rattle.unrank.proofs.Outcomes.{write-refused, write-above, write-below}
 use borrow.Author.Needs.{needs}
 use Rattle.unrank.proofs.write.Statement.{statement}

@@ -18,9 +18,9 @@ use Rattle.counts.proofs.All.{count-same, earlier-local}
 use Rattle.table.specs.declared.Checked.{Checked}
 use Rattle.table.specs.declared.Checked.the-variants.{Sound}
 use Rattle.table.specs.Checked.{told, Prepared, CheckAnswer}
-use Rattle.unrank.specs.Ready.{Ready}
+use Rattle.unrank.specs.UnrankReady.{UnrankReady}
 
-module _ {states : ℕ} {rows accepting : List ℕ} {total : ℕ} {offsets first after counts sums : List ℕ} (x : Ready states rows accepting total offsets first after counts sums) where
+module _ {states : ℕ} {rows accepting : List ℕ} {total : ℕ} {offsets first after counts sums : List ℕ} (x : UnrankReady states rows accepting total offsets first after counts sums) where
   pub good : Good (tableOf states rows accepting)
   good = passing-good states rows accepting total (x .passes)
 
@@ -68,7 +68,7 @@ module _ {states : ℕ} {rows accepting offsets heads next first after counts lo
       let m : k < length (rowsOf rows) = rw (rowsOf-length rows) l in
       rw (rowsOf-at rows k noRow l) at (table-good .sound .targets k m)
 
-  pub ready : Ready states rows accepting total offsets first after counts sums
+  pub ready : UnrankReady states rows accepting total offsets first after counts sums
   ready = record {
     passes = sym checks;
     laid = rw (prepared .all) at (prepared .laid);

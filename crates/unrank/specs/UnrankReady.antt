@@ -12,7 +12,7 @@ use Rattle.counts.specs.Chain.{target, Chained}
 use Rattle.counts.specs.States.{held}
 
 -- a table that passes, its rows at their offsets and chained by target, the counts of its states and the sums of earlier rows
-pub record Ready (states : ℕ) (rows accepting : List ℕ) (total : ℕ) (offsets first after counts sums : List ℕ) : Type 0 where
+pub record UnrankReady (states : ℕ) (rows accepting : List ℕ) (total : ℕ) (offsets first after counts sums : List ℕ) : Type 0 where
   pub passes : Passes states rows accepting total
   pub laid : Laid rows offsets (howManyRows rows)
   pub chained : Chained rows 0 (howManyRows rows) first after
@@ -22,17 +22,17 @@ pub record Ready (states : ℕ) (rows accepting : List ℕ) (total : ℕ) (offse
   pub earlier : (k : ℕ) → k < howManyRows rows → getD sums k 0 ≡ earlierRows (rowsOf rows) (held counts) (target rows k) k
 
 -- a value below the count of a state of such a table
-pub record Valued (rows offsets first after counts sums : List ℕ) (q value : ℕ) : Type 0 where
+pub record ValueReady (rows offsets first after counts sums : List ℕ) (q value : ℕ) : Type 0 where
   pub states : ℕ
   pub accepting : List ℕ
   pub total : ℕ
-  pub ready : Ready states rows accepting total offsets first after counts sums
+  pub ready : UnrankReady states rows accepting total offsets first after counts sums
   pub state : q < states
   pub less : value < held counts q
 
 -- a number below the total of such a table
-pub record Numbered (rows accepting offsets first after counts sums : List ℕ) (number : ℕ) : Type 0 where
+pub record NumberReady (rows accepting offsets first after counts sums : List ℕ) (number : ℕ) : Type 0 where
   pub states : ℕ
   pub total : ℕ
-  pub ready : Ready states rows accepting total offsets first after counts sums
+  pub ready : UnrankReady states rows accepting total offsets first after counts sums
   pub less : number < total

@@ -5,22 +5,22 @@ use mathlib.Core.Path.{_≡_, sym, ap, _∙_}
 use mathlib.Core.List.{List, _∷_}
 use lib.ListN.{length, length-set}
 use Rattle.model.specs.Names.{nameOf}
-use Rattle.term.specs.Emit.{lettering}
+use Rattle.term.specs.Emit.{entryText}
 use Rattle.term.proofs.Pieces.{put-one, put-none, put-length}
-use Rattle.term.proofs.Lettering.{letter-close, letter-bar, letter-name, letter-mark, name-line, marked}
+use Rattle.term.proofs.EntryText.{letter-close, letter-bar, letter-name, letter-mark, name-line, marked}
 use borrow.Author.Needs.{needs}
-use Rattle.term.proofs.put_entry.Statement.{statement}
-use Rattle.term.proofs.put_entry.Tie as tie
+use Rattle.term.proofs.put_entry_text.Statement.{statement}
+use Rattle.term.proofs.put_entry_text.Tie as tie
 
 -- the name on the symbol's line
 name : (c : tie.After-name-at) → c .name-at .result .now ≡ nameOf (c .before .before .before .before .before .args .names .now) (c .before .before .before .before .before .args .e)
 name c = c .name-at .ensures ∙ name-line _ _ _ (c .before .wide .ensures)
 
 -- what is to be put after a mark, and without one
-plain : (c : tie.Then3) → lettering (c .before .before .before .before .before .before .args .names .now) (c .before .before .before .before .before .before .args .mark) (c .before .before .before .before .before .before .args .e) ≡ c .before .name-at .result .now
+plain : (c : tie.Then3) → entryText (c .before .before .before .before .before .before .args .names .now) (c .before .before .before .before .before .before .args .mark) (c .before .before .before .before .before .before .args .e) ≡ c .before .name-at .result .now
 plain c = letter-name _ _ _ (c .before .before .before .if1 .left) (c .if3 .taken) ∙ sym (name (c .before))
 
-with-mark : (c : tie.Else3) → lettering (c .before .before .before .before .before .before .args .names .now) (c .before .before .before .before .before .before .args .mark) (c .before .before .before .before .before .before .args .e) ≡ c .before .before .before .before .before .before .args .mark ∷ c .before .name-at .result .now
+with-mark : (c : tie.Else3) → entryText (c .before .before .before .before .before .before .args .names .now) (c .before .before .before .before .before .before .args .mark) (c .before .before .before .before .before .before .args .e) ≡ c .before .before .before .before .before .before .args .mark ∷ c .before .name-at .result .now
 with-mark c = letter-mark _ _ _ (c .before .before .before .if1 .left) (c .if3 .left) ∙ ap (λ (x : List ℕ). c .before .before .before .before .before .before .args .mark ∷ x) (sym (name (c .before)))
 
 room : (c : tie.Else3) → c .before .before .before .before .before .before .args .at + length (c .before .before .before .before .before .before .args .mark ∷ c .before .name-at .result .now) ≤ length (c .before .before .before .before .before .before .args .text .now)
@@ -61,8 +61,8 @@ same-length-3 c = put-length (marked (c .before .before .before .before .before 
 returns-4 : tie.Need-returns-4
 returns-4 c = rw (with-mark (c .before .before .before .before)) (marked _ _ _ _ _ _ (room (c .before .before .before .before)) (c .before .before .put-bytes2 .ensures))
 
-pub put-entry-spec : {M : Type 1} → statement M
-put-entry-spec =
+pub put-entry-text-spec : {M : Type 1} → statement M
+put-entry-text-spec =
     tie.close
     (tie.spec
     slice-write-text

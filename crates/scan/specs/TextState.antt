@@ -4,22 +4,22 @@ use mathlib.Core.List.{List}
 use Rattle.model.specs.Term as term
 use Rattle.chains.specs.declared.Found.{Found}
 use Rattle.chains.specs.declared.Found.the-variants.{At, Nothing}
-use Rattle.scan.specs.declared.Reading.{Reading}
-use Rattle.scan.specs.declared.Reading.the-variants.{Due, InName, Closed}
-use Rattle.scan.specs.declared.Step.{Step}
-use Rattle.scan.specs.declared.Step.the-variants.{GoesOn, Stops}
+use Rattle.scan.specs.declared.TextState.{TextState}
+use Rattle.scan.specs.declared.TextState.the-variants.{Due, InName, Closed}
+use Rattle.scan.specs.declared.TextStep.{TextStep}
+use Rattle.scan.specs.declared.TextStep.the-variants.{GoesOn, Stops}
 
-abbrev pub seen : Reading → term.Reading
+abbrev pub seen : TextState → term.ScanState
 seen (Due depth) = term.due depth
 seen (InName depth bytes) = term.inName depth bytes
 seen (Closed depth) = term.closed depth
 
-abbrev pub seenStep : Step → term.Step
+abbrev pub seenStep : TextStep → term.ScanStep
 seenStep (GoesOn r) = term.goesOn (seen r)
 seenStep Stops = term.stops
 
 -- how many brackets are open
-abbrev pub depthOf : term.Reading → ℕ
+abbrev pub depthOf : term.ScanState → ℕ
 depthOf (term.due depth) = depth
 depthOf (term.inName depth bytes) = depth
 depthOf (term.closed depth) = depth

@@ -11,7 +11,7 @@ use Rattle.model.specs.Tree.{Forest, Tree, empty, node, only, serialForest, ser
 use Rattle.model.specs.Term.{inBrackets, afterComma, textOfTerms, textOf}
 use Rattle.model.specs.TermOperations.{namesOf, termOfTree, bytesOf}
 use Rattle.model.proofs.Entries.{tree-from}
-use Rattle.term.specs.Emit.{lettering, lettered}
+use Rattle.term.specs.Emit.{entryText, entriesText}
 
 -- the byte before a name
 abbrev marked : ℕ → List ℕ
@@ -31,16 +31,16 @@ markPast mark empty = mark
 markPast mark (node s k r) = 44
 
 letter-symbol : (names : List ℕ) (mark s : ℕ) (es : List ℕ) → 1 ≤ s
-    → lettered names mark (s ∷ es) ≡ marked mark ++ nameOf names s ++ lettered names 40 es
-unfolding lettered lettering
+    → entriesText names mark (s ∷ es) ≡ marked mark ++ nameOf names s ++ entriesText names 40 es
+unfolding entriesText entryText
 letter-symbol names mark s es l = rw (ne-eqb s 0 (λ z. omega arith))
 
-letter-bar : (names : List ℕ) (mark : ℕ) (es : List ℕ) → lettered names mark (0 ∷ es) ≡ closing mark ++ lettered names 44 es
-unfolding lettered lettering
+letter-bar : (names : List ℕ) (mark : ℕ) (es : List ℕ) → entriesText names mark (0 ∷ es) ≡ closing mark ++ entriesText names 44 es
+unfolding entriesText entryText
 letter-bar names mark es = refl
 
-letter-end : (names text : List ℕ) → text ++ lettered names 44 [] ≡ text
-unfolding lettered
+letter-end : (names text : List ℕ) → text ++ entriesText names 44 [] ≡ text
+unfolding entriesText
 letter-end names text = append-nil text
 
 regroup : (m n x c a l : List ℕ) → (m ++ n) ++ (x ++ (c ++ (a ++ l))) ≡ (m ++ ((n ++ (x ++ c)) ++ a)) ++ l
@@ -77,28 +77,28 @@ unfolding namesOf textOfTerms
 empty-text names = refl
 
 letter-forest : (names : List ℕ) (mark : ℕ) (f : Forest) (es : List ℕ) → SymbolsInRange f
-    → lettered names mark (serialForest f ++ es) ≡ (opening mark f ++ textFor names f) ++ lettered names (markPast mark f) es
+    → entriesText names mark (serialForest f ++ es) ≡ (opening mark f ++ textFor names f) ++ entriesText names (markPast mark f) es
 unfolding serialForest SymbolsInRange
-letter-forest names mark empty es h = ap (λ (l : List ℕ). l ++ lettered names mark es) (sym (empty-text names))
+letter-forest names mark empty es h = ap (λ (l : List ℕ). l ++ entriesText names mark es) (sym (empty-text names))
 letter-forest names mark (node s k r) es h =
     let a = rw (right-text names r, right-mark r) at (letter-forest names 44 r es (h .3)) in
     let b = letter-bar names (markPast 40 k) (serialForest r ++ es) ∙ ap (λ (l : List ℕ). closing (markPast 40 k) ++ l) a in
     let c = letter-forest names 40 k (0 ∷ (serialForest r ++ es)) (h .2) ∙ ap (λ (l : List ℕ). (opening 40 k ++ textFor names k) ++ l) b in
     let beyond = afterComma (namesOf names r) (textFor names r) in
-    ap (λ (l : List ℕ). lettered names mark (s ∷ l)) (append-assoc (serialForest k) (0 ∷ serialForest r) es)
+    ap (λ (l : List ℕ). entriesText names mark (s ∷ l)) (append-assoc (serialForest k) (0 ∷ serialForest r) es)
     ∙ letter-symbol names mark s (serialForest k ++ 0 ∷ (serialForest r ++ es)) (h .0)
     ∙ ap (λ (l : List ℕ). (marked mark ++ nameOf names s) ++ l) c
-    ∙ regroup (marked mark) (nameOf names s) (opening 40 k ++ textFor names k) (closing (markPast 40 k)) beyond (lettered names 44 es)
+    ∙ regroup (marked mark) (nameOf names s) (opening 40 k ++ textFor names k) (closing (markPast 40 k)) beyond (entriesText names 44 es)
     ∙ rw (children-text names k, node-text names s k r)
 
-letter-tree : (names : List ℕ) (t : Tree) → SymbolsInRange (only t) → lettered names 0 (serial t) ≡ textOf (termOfTree names t)
+letter-tree : (names : List ℕ) (t : Tree) → SymbolsInRange (only t) → entriesText names 0 (serial t) ≡ textOf (termOfTree names t)
 unfolding serial textOf namesOf
 letter-tree names t h =
-    ap (lettered names 0) (sym (append-nil (serialForest (only t)))) ∙ letter-forest names 0 (only t) [] h ∙ letter-end names (textFor names (only t))
+    ap (entriesText names 0) (sym (append-nil (serialForest (only t)))) ∙ letter-forest names 0 (only t) [] h ∙ letter-end names (textFor names (only t))
 
 -- what is written for a well-formed tree is the text of its term
-pub letters-are : (names entries : List ℕ) → WellFormed entries → lettered names 0 entries ≡ bytesOf names entries
+pub entries-text : (names entries : List ℕ) → WellFormed entries → entriesText names 0 entries ≡ bytesOf names entries
 unfolding bytesOf textOf
-letters-are names entries w =
+entries-text names entries w =
     rw (tree-from entries w)
-    (ap (lettered names 0) (sym (w .written)) ∙ letter-tree names (w .tree) (w .symbols))
+    (ap (entriesText names 0) (sym (w .written)) ∙ letter-tree names (w .tree) (w .symbols))

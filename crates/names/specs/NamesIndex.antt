@@ -6,14 +6,14 @@ use mathlib.Core.List.{List}
 use lib.ListN.{length, getD, take, drop}
 use Rattle.model.specs.Answers.{Outcome, refused}
 use Rattle.model.specs.Choice.{if_then_else_}
-use Rattle.model.specs.Names.{isName, sameName, lineAt, howManyNames, namesOr}
+use Rattle.model.specs.Names.{isName, sameName, lineAt, howManyNames, namesThen}
 use Rattle.chains.specs.First.{firstWith}
 use Rattle.chains.specs.Hash.{mixAll, spread}
 use Rattle.chains.specs.Chains.{Chains}
 use Rattle.chains.specs.declared.Found.{Found}
 use Rattle.chains.specs.declared.Found.the-variants.{At, Nothing}
-use Rattle.names.specs.declared.Names.{Names}
-use Rattle.names.specs.declared.Names.the-variants.{Sound, Faulty}
+use Rattle.names.specs.declared.NamesCheck.{NamesCheck}
+use Rattle.names.specs.declared.NamesCheck.the-variants.{Sound, Faulty}
 
 -- where the name of the line that begins at `at` ends; nothing where the line is no name, or byte 10 does not follow
 unfoldable pub nameEnd : List ℕ → ℕ → Found
@@ -45,7 +45,7 @@ pub record Lined (names starts : List ℕ) (n : ℕ) : Type 0 where
   pub stands : (k : ℕ) → k < n → Stands names (getD starts k 0) (getD starts (k + 1) 0) (lineAt names k .bytes)
 
 -- the first n lines, no two of which have the same name, are indexed
-pub record Known (names starts heads next : List ℕ) (n : ℕ) : Type 0 where
+pub record NamesIndexed (names starts heads next : List ℕ) (n : ℕ) : Type 0 where
   pub lined : Lined names starts n
   pub chains : Chains (bucketOf names) 512 256 n heads next
   pub apart : (j k : ℕ) → j < k → k < n → sameName (lineAt names j .bytes) (lineAt names k .bytes) ≡ false
@@ -56,12 +56,12 @@ pub record Started (starts : List ℕ) : Type 0 where
   pub first : getD starts 0 0 ≡ 0
 
 -- the refusal, or where the list keeps to the rules what follows
-abbrev pub namesThen : Names → Outcome → Outcome
-namesThen (Sound n) otherwise = otherwise
-namesThen (Faulty k) otherwise = refused 17 k
+abbrev pub namesCheckThen : NamesCheck → Outcome → Outcome
+namesCheckThen (Sound n) otherwise = otherwise
+namesCheckThen (Faulty k) otherwise = refused 17 k
 
 -- the answer decides 17; where the list keeps to the rules, all its lines are known
-pub record Answered (names starts heads next : List ℕ) (r : Names) : Type 0 where
-  pub decided : (o : Outcome) → namesThen r o ≡ namesOr names o
+pub record NamesAnswer (names starts heads next : List ℕ) (r : NamesCheck) : Type 0 where
+  pub decided : (o : Outcome) → namesCheckThen r o ≡ namesThen names o
   pub count : (n : ℕ) → r ≡ Sound n → n ≡ howManyNames names
-  pub known : (n : ℕ) → r ≡ Sound n → Known names starts heads next n
+  pub known : (n : ℕ) → r ≡ Sound n → NamesIndexed names starts heads next n
