@@ -1,6 +1,6 @@
 // The answers of every operation: a result, or a refusal with its kind and place.
 ghost use mathlib.Core.Path.{_≡_};
-ghost use Rattle.model.specs.Answers.{refused, kindNumber, refusedBy};
+ghost use Rattle.model.specs.Answers.{refused, kindNumber, refusedBy, outcome};
 
 // The refusals of document 01, in the order of their numbers.
 pub enum Kind {
@@ -53,6 +53,13 @@ pub fn refuse(kind: Kind, place: u64) -> Refusal
         place: place,
         kind: kind,
     }
+}
+
+// The answer that is such a refusal.
+pub fn refused_answer(kind: Kind, place: u64) -> Answer
+    ensures { λ r. ⌜ outcome r ≡ refused (kindNumber kind) place ⌝ }
+{
+    Answer::Refused(refuse(kind, place))
 }
 
 // Document 01's number of a kind of refusal.
