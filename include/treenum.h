@@ -74,7 +74,7 @@ enum {
     TREENUM_SHORT_TEXT_LIST = 24 /* a short lent text list; the bytes needed */
 };
 
-/* A tree list of so many entries is never short, and neither is a text list of so many bytes. */
+/* A tree list with this many entries is never short, and neither is a text list with this many bytes. */
 #define TREENUM_TREE_ROOM 4096
 #define TREENUM_TERM_ROOM 53248
 
