@@ -437,7 +437,7 @@ struct Line {
     value: u64,
 }
 
-// A line that has so many numbers, and no digit of the next.
+// A line with this many whole numbers, and no digit of the next.
 fn line_of(filled: usize) -> Line {
     Line {
         filled: filled,

@@ -1,4 +1,4 @@
--- Exactly so many: things listed by their numbers, images of things; and 'how many' is one number.
+-- Exactly n things: things listed by their numbers, images of things; and 'how many' is one number.
 use Prim.Native.Nat.{ℕ, zero, suc, _≤_, _<_}
 use mathlib.Core.Path.{_≡_, refl, ap, sym, _∙_, subst}
 use mathlib.Core.List.{List, [], _∷_, map, List·Memᴰ, List·Memᴰ·head, List·Memᴰ·tail}

@@ -124,13 +124,13 @@ module _ (T : Table) (sound : Sound T) where
       pub tree-of-number : {t : Tree} → Accepted T t → treeOf T c (numberOf T c t) ≡ t
       tree-of-number {t} a = let r = tree-numbers (numberOf T c t) (number-below a) in number-same (r .accepted) a (r .number)
 
-      -- exactly so many trees are accepted
+      -- exactly as many trees are accepted as the accepting states count together
       pub all-counted : Exactly (Accepted T) (sum (map c (T .accepting)))
       all-counted =
           exactly (treeOf T c) (numberOf T c) (Accepted T) (sum (map c (T .accepting)))
           (λ i l. tree-numbers i l .number) (λ i l. tree-numbers i l .accepted) (λ t a. (number-below a, tree-of-number a))
 
-      -- exactly so many accepted trees as a tree's number come before it
+      -- exactly as many accepted trees come before a tree as its number says
       pub before-counted : {t : Tree} → Accepted T t → ComeBefore T t (numberOf T c t)
       before-counted {t} a =
           exactly (treeOf T c) (numberOf T c) (λ u. Before T u t) (numberOf T c t)

@@ -1,4 +1,4 @@
--- ScanState a text: the scan accepts just the terms, its place is document 01's, and the term is read back from its text.
+-- Reading a text: the scan accepts just the terms, its place is document 01's, and the term is read back from its text.
 use Prim.Native.Nat.{ℕ, zero, suc, _+_, _≤_, _<_}
 use mathlib.Core.Path.{_≡_, refl, ap, sym, _∙_}
 use mathlib.Core.Bool.{Bool, true, false}

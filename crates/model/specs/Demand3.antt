@@ -18,7 +18,7 @@ use Rattle.model.specs.Write.{writeOutcome, writeList}
 
 -- ---- trees and numbers, by definition
 
--- a number's tree: it is accepted, this is its number (001, Figure 1), and exactly so many accepted trees come before it
+-- a number's tree: it is accepted, this is its number (001, Figure 1), and exactly as many accepted trees come before it
 pub record HasTree (T : Table) (number : ℕ) : Type 0 where
   pub tree : Tree
   pub accepted : Accepted T tree
@@ -27,13 +27,13 @@ pub record HasTree (T : Table) (number : ℕ) : Type 0 where
 
 -- the trees that a table accepts and the numbers below the total pair off
 pub record Pairing (T : Table) (total : ℕ) : Type 0 where
-  -- the table accepts exactly so many trees
+  -- the table accepts exactly `total` trees
   pub accepted : Exactly (Accepted T) total
   -- each is written as a well-formed list of at most 4,096 entries
   pub written : (t : Tree) → Accepted T t → SymbolsInRange (only t) × (length (serial t) ≤ 4096)
   -- "two trees are the same if their lists are": so counting trees is counting lists
   pub lists : (t u : Tree) → Accepted T t → Accepted T u → serial t ≡ serial u → t ≡ u
-  -- a tree's number is below the total, and exactly so many accepted trees come before the tree
+  -- a tree's number is below the total, and exactly as many accepted trees come before the tree
   pub below : (t : Tree) → Accepted T t → treeNumber T t < total
   pub before : (t : Tree) → Accepted T t → ComeBefore T t (treeNumber T t)
   -- different trees have different numbers

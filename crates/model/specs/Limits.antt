@@ -9,7 +9,7 @@ use Rattle.model.specs.Reach.{Reaches, Accepted}
 use Rattle.model.specs.Order.{Exactly}
 use Rattle.model.specs.Check.{countLimit}
 
--- exactly so many trees reach the state
+-- exactly this many trees reach the state
 abbrev pub ReachedBy : List Row → (q many : ℕ) → Type 0
 ReachedBy rows q many = Exactly (λ (t : Tree). Reaches rows t q) many
 

@@ -53,7 +53,7 @@ pub record IsTerm (text : List ℕ) : Type 0 where
   pub names : AllNames (alone is)
   pub written : textOf is ≡ text
 
--- ScanState a text byte by byte. So many brackets are open, and: a name is due; so many bytes of a name are read; a bracket has just been closed
+-- Reading a text byte by byte. `depth` brackets are open, and: a name is due; `bytes` bytes of a name are read; a bracket has just been closed
 pub data ScanState : Type 0 where
   due : (depth : ℕ) → ScanState
   inName : (depth bytes : ℕ) → ScanState
@@ -116,7 +116,7 @@ nameBegins text (suc i) = isNameByte (getD text (suc i) 0) && not (isNameByte (g
 abbrev pub nameAt : List ℕ → ℕ → List ℕ
 nameAt text i = run (drop i text)
 
--- ScanState the term of a text. The bytes are taken from the last. What is seen: the name being read with the terms in its brackets, the
+-- Reading the term of a text. The bytes are taken from the last. What is seen: the name being read with the terms in its brackets, the
 -- terms to its right, and for each bracket that is open the terms to the right of it
 pub record Seen : Type 0 where
   pub name : List ℕ

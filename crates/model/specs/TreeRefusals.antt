@@ -27,7 +27,7 @@ module _ (states : ℕ) (rows accepting : List ℕ) where
     number14 : number ≡ 14 → (total : ℕ) → Passes states rows accepting total → length tree ≤ 4096 → (w : WellFormed tree)
         → UnacceptedAt (tableOf states rows accepting) (w .tree) place → NumberRefused tree number place
 
-  -- why writing the tree of a number into a list of so many entries is refused
+  -- why writing the tree of a number into a list with room for this many entries is refused
   pub data TreeRefused (n room number place : ℕ) : Type 0 where
     -- "It first refuses as the check does."
     treeAsCheck : checkOutcome states rows accepting ≡ refused number place → TreeRefused n room number place

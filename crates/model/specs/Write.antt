@@ -18,7 +18,8 @@ use Rattle.model.specs.Number.{checkedThen}
 unfoldable pub treeEntries : Table → (number : ℕ) → List ℕ
 treeEntries T number = serial (treeOf T (count T) number)
 
--- what writing the tree of a number answers for a table, where this is what the table's check answers, into a list of so many entries
+-- what writing the tree of a number answers for a table, where this is what the table's check answers, into a list with
+-- room for this many entries
 unfoldable pub writeTree : (checked : Outcome) → Table → (number room : ℕ) → Outcome
 writeTree checked T number room =
     let needed = length (treeEntries T number) in
