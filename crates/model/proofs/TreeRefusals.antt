@@ -18,10 +18,11 @@ use Rattle.model.specs.Number.{acceptedThen, numberTree, numberOutcome}
 use Rattle.model.specs.Entries.{treeThen, treeFrom}
 use Rattle.model.specs.Write.{writeTreeList, entriesFor, writeOutcome, writeList}
 use Rattle.model.specs.Demand3.{HasTree}
-use Rattle.model.specs.TreeRefusals.{NumberRefused, numberAsCheck, number12, number13, number14, TreeRefused, treeAsCheck, tree15, tree16, NumberRefuses, TreeRefuses, TreeLent}
-use Rattle.model.proofs.Choice.{refused-number, refused-place, refused-only}
+use Rattle.model.specs.TreeRefusals.{NumberRefused, numberAsCheck, number12, number13, number14, TreeRefused, treeAsCheck, tree15, tree16, NumberRefuses, TreeRefuses, NumberElse, TreeElse, TreeLent}
+use Rattle.model.proofs.Choice.{refused-number, refused-place, result-only, refused-only}
 use Rattle.model.proofs.Serial.{serial-same}
 use Rattle.model.proofs.Writing.{lent-told}
+use Rattle.model.proofs.Entries.{tree-of}
 use Rattle.model.proofs.Stuck.{not-accepted, not-accepted-once}
 use Rattle.model.proofs.TermRefusals.{TreePlace, long, no-tree, after, tree-place, tree-long, tree-refused}
 use Rattle.model.proofs.Demand3.{checked-then, demand3, refuses-first, passing-sound, answer-number, number-refused, write-answer, short-answer, beyond-answer, entries-back, reach-symbols, write-tree-back}
@@ -115,6 +116,28 @@ number-refuses states rows accepting tree number place = (number-ground states r
 
 pub tree-refuses : TreeRefuses
 tree-refuses states rows accepting n room number place = (tree-ground states rows accepting n room number place, ground-tree states rows accepting n room number place)
+
+pub number-else : NumberElse
+number-else states rows accepting tree h =
+    result-only (numberOutcome states rows accepting tree) _ (λ m e. number-of m e (checkOutcome states rows accepting) refl)
+    (λ k p e. h k p (number-ground states rows accepting tree k p e))
+  where
+    number-of : (m : ℕ) → numberOutcome states rows accepting tree ≡ result m → (o : Outcome) → checkOutcome states rows accepting ≡ o
+        → m ≡ numberOf (tableOf states rows accepting) (count (tableOf states rows accepting)) (treeFrom tree)
+    number-of m e (refused k p) c =
+        let f = refuses-first states rows accepting k p c .numbering tree in
+        let z : _≡_ {A = ℕ} 0 1 = cc in
+        absurd (omega arith)
+    number-of m e (result total) c =
+        let a = answer-number states rows accepting total c tree m e in
+        let s = reach-symbols (passing-sound states rows accepting total c) (a .accepts .accepted .reaches) in
+        let f : treeFrom tree ≡ a .accepts .tree = ap treeFrom (sym (a .accepts .written)) ∙ tree-of (a .accepts .tree) s in
+        sym (a .numbers) ∙ ap (numberOf (tableOf states rows accepting) (count (tableOf states rows accepting))) (sym f)
+
+pub tree-else : TreeElse
+tree-else states rows accepting n room h =
+    result-only (writeOutcome states rows accepting n room) _ (λ m e. write-tree-back states rows accepting n room m e .0)
+    (λ k p e. h k p (tree-ground states rows accepting n room k p e))
 
 pub tree-lent : TreeLent
 unfolding writeList writeTreeList writeOutcome entriesFor

@@ -84,9 +84,9 @@ lentAfter (refused number place) written old = old
 pub record Lent (answer : Outcome) (written old after : List ℕ) : Type 0 where
   -- "A refusal writes to no lent list."
   pub kept : (number place : ℕ) → answer ≡ refused number place → after ≡ old
-  -- "gives the count of .. written at the front"
+  -- "gives the count of entries written at the front"; "gives the count of bytes written at the front"
   pub front : (n : ℕ) → answer ≡ result n → (n ≡ length written) × (take n after ≡ written)
   -- "later entries stay"; "later bytes stay"
   pub later : (n : ℕ) → answer ≡ result n → drop n after ≡ drop n old
-  -- a list becomes no longer and no shorter
+  -- the list keeps its length
   pub same : length after ≡ length old

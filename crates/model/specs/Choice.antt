@@ -8,7 +8,7 @@ abbrev pub if_then_else_ : {A : Type 0} → Bool → A → A → A
 if true then a else b = a
 if false then a else b = b
 
--- a ground is a refusal's number, or 0 where no ground holds
+-- a ground is given by its refusal's number; 0 says that none holds
 unfoldable pub refuseOn : (ground place : ℕ) → Outcome → Outcome
 refuseOn zero place otherwise = otherwise
 refuseOn (suc k) place otherwise = refused (suc k) place

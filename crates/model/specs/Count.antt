@@ -32,7 +32,8 @@ unfoldable pub stateCounts : List Row → (ℕ → ℕ) → ℕ → ℕ
 stateCounts rows c q = sum (map (weight c q) rows)
 
 -- a count function for the states of a table, whatever the order of its states: it satisfies the equations for every state. (On the states
--- there is just one such function if no state lies below itself; proved where arguments are below targets: the law `counts-unique`)
+-- there is just one such function if arguments are states and no state lies below itself; proved where arguments are below targets: the law
+-- `counts-unique`)
 pub record Counts (T : Table) (c : ℕ → ℕ) : Type 0 where
   pub state : (q : ℕ) → q < T .states → c q ≡ stateCounts (T .rows) c q
 

@@ -1,5 +1,5 @@
 -- Demand 3, for a table that passes its check: `Pairing` speaks of trees and numbers as they are defined, `AnswersOf` of what the operations
--- answer. Assumes nothing: these are definitions.
+-- answer. At the end, what they answer for a table that does not pass. Assumes nothing: these are definitions.
 use Prim.Native.Nat.{ℕ, _<_, _≤_}
 use mathlib.Core.Path.{_≡_}
 use mathlib.Core.Logic.{_↔_}
@@ -49,7 +49,7 @@ pub record AcceptsList (T : Table) (entries : List ℕ) : Type 0 where
   pub written : serial tree ≡ entries
   pub accepted : Accepted T tree
 
--- and the number is the tree's
+-- the list is an accepted tree, and this is its number
 pub record ListHasNumber (T : Table) (entries : List ℕ) (number : ℕ) : Type 0 where
   pub accepts : AcceptsList T entries
   pub numbers : treeNumber T (accepts .tree) ≡ number
@@ -69,7 +69,7 @@ module _ (states : ℕ) (rows accepting : List ℕ) where
     pub short : (tree : List ℕ) → length tree < length entries
         → (writeOutcome states rows accepting number (length tree) ≡ refused 16 (length entries)) × (writeList states rows accepting number tree ≡ tree)
 
-  -- numbering and writing, beside the pairing by definition
+  -- what numbering and writing answer for a table with this total
   pub record AnswersOf (total : ℕ) : Type 0 where
     -- numbering answers a number exactly for a list that is an accepted tree with that number
     pub numbers : (entries : List ℕ) (n : ℕ) → (numberOutcome states rows accepting entries ≡ result n) ↔ ListHasNumber (tableOf states rows accepting) entries n

@@ -62,7 +62,7 @@ ReadLent = (names text tree : List ℕ) → Lent (readTermOutcome names text (le
 abbrev pub WriteLent : Type 0
 WriteLent = (names tree text : List ℕ) → Lent (writeTermOutcome names tree (length text)) (bytesOf names tree) text (writeTermList names tree text)
 
--- What a term is and what its entries are, by texts alone: so no definition bounds how many terms stand in brackets, or how deep
+-- What a term is and what its entries are, by texts alone: there is no limit on how many terms stand in brackets, or how deep
 
 -- texts with `,` between them
 unfoldable pub commas : List (List ℕ) → List ℕ

@@ -7,7 +7,7 @@ use Rattle.model.specs.Table.{Table}
 use Rattle.model.specs.Tree.{Forest, Tree, node, only}
 use Rattle.model.specs.Reach.{Accepted, rowOf, stateOf, entryOf}
 
--- Accepted trees side by side, in one state: "if its row stands earlier; with the same row, by the first child in which they differ, compared by row and child again"
+-- Trees side by side that reach the same states, in order: "if its row stands earlier; with the same row, by the first child in which they differ, compared by row and child again"
 pub data Earlier (T : Table) : Forest → Forest → Type 0 where
   row : {s s′ : ℕ} {k k′ r r′ : Forest} → rowOf T s k < rowOf T s′ k′ → Earlier T (node s k r) (node s′ k′ r′)
   child : {s s′ : ℕ} {k k′ r r′ : Forest} → rowOf T s k ≡ rowOf T s′ k′ → Earlier T k k′ → Earlier T (node s k r) (node s′ k′ r′)

@@ -4,9 +4,11 @@ use mathlib.Core.Path.{_≡_}
 use mathlib.Core.Logic.{_↔_}
 use mathlib.Core.List.{List}
 use lib.ListN.{length}
-use Rattle.model.specs.Answers.{refused, Lent}
+use Rattle.model.specs.Answers.{result, refused, Lent}
 use Rattle.model.specs.Table.{tableOf}
 use Rattle.model.specs.Tree.{serial, WellFormed}
+use Rattle.model.specs.Value.{treeNumber}
+use Rattle.model.specs.Entries.{treeFrom}
 use Rattle.model.specs.Check.{checkOutcome, Passes}
 use Rattle.model.specs.Place.{StopsAt, UnacceptedAt}
 use Rattle.model.specs.Number.{numberOutcome}
@@ -49,7 +51,18 @@ TreeRefuses =
     (states : ℕ) (rows accepting : List ℕ) (n room number place : ℕ)
     → (writeOutcome states rows accepting n room ≡ refused number place) ↔ TreeRefused states rows accepting n room number place
 
--- what the lent list then holds (the law `tree-lent`)
+-- "Where no ground stated below holds, the answer is the result." (the theorems `number-else` and `tree-else`)
+abbrev pub NumberElse : Type 0
+NumberElse =
+    (states : ℕ) (rows accepting tree : List ℕ) → ((number place : ℕ) → NumberRefused states rows accepting tree number place → ⊥)
+    → numberOutcome states rows accepting tree ≡ result (treeNumber (tableOf states rows accepting) (treeFrom tree))
+
+abbrev pub TreeElse : Type 0
+TreeElse =
+    (states : ℕ) (rows accepting : List ℕ) (n room : ℕ) → ((number place : ℕ) → TreeRefused states rows accepting n room number place → ⊥)
+    → writeOutcome states rows accepting n room ≡ result (length (entriesFor states rows accepting n))
+
+-- what the lent list then holds (the theorem `tree-lent`)
 abbrev pub TreeLent : Type 0
 TreeLent =
     (states : ℕ) (rows accepting : List ℕ) (number : ℕ) (tree : List ℕ)
