@@ -2,7 +2,7 @@
 use chains::Found;
 use model::Answer;
 use model::Kind;
-use model::refuse;
+use model::refused_answer;
 use table::Checked;
 use tree::Form;
 use tree::Reading;
@@ -83,7 +83,7 @@ fn number_in(accepting: &[u16], counts: &[u64; 256], q: u16, value: u64, place: 
         earlier += counts[chains::wide(accepting[i])];
         i += 1;
     }
-    Answer::Refused(refuse(Kind::NotAccepted, place as u64))
+    refused_answer(Kind::NotAccepted, place as u64)
 }
 
 // The number of a tree, entry by entry: an entry opens a node, or closes one whose children's states and values are waiting.
@@ -141,13 +141,13 @@ fn number_tree(
                         i += 1;
                     }
                     Node::Stuck => {
-                        return Answer::Refused(refuse(Kind::NotAccepted, i as u64));
+                        return refused_answer(Kind::NotAccepted, i as u64);
                     }
                 }
             }
             // not reached: no entry of a tree is refused
             Step::Refuses => {
-                return Answer::Refused(refuse(Kind::NotATree, i as u64));
+                return refused_answer(Kind::NotATree, i as u64);
             }
         }
     }

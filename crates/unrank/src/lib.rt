@@ -2,7 +2,7 @@
 use chains::wide;
 use model::Answer;
 use model::Kind;
-use model::refuse;
+use model::refused_answer;
 use table::Checked;
 ghost use mathlib.Core.Path.{_≡_};
 ghost use Prim.Native.Nat.{_≤_};
@@ -220,7 +220,7 @@ fn write_number(
     let value = spot.value;
     let needed = tree_length(rows, offsets, first, after, counts, sums, q, value);
     if tree.len() < needed {
-        return Answer::Refused(refuse(Kind::ShortTreeList, needed as u64));
+        return refused_answer(Kind::ShortTreeList, needed as u64);
     }
     write_tree(rows, offsets, first, after, counts, sums, q, value, tree);
     Answer::Result(needed as u64)
@@ -253,7 +253,7 @@ pub fn write(states: u64, rows: &[u16], accepting: &[u16], number: u64, tree: &m
     ) {
         Checked::Sound(total, _) => {
             if total <= number {
-                return Answer::Refused(refuse(Kind::NumberNotBelowTotal, 0));
+                return refused_answer(Kind::NumberNotBelowTotal, 0);
             }
             write_number(
                 rows,

@@ -121,10 +121,10 @@ loop-again-2 : tie.Need-loop-again-2 Inv-loop μ-loop
 loop-again-2 c = node-closes (c .before .before .before .before .before .before .before .before .before .before .before .before .before .before .before .loop .inv) (c .before .before .before .before .before .before .before .before .before .before .before .before .before .before .loop-test .taken) _ (closes-step (c .before .before .before .before .before .before .before .before .before)) _ (c .before .before .before .before .before .before .before .before .wide .ensures) (c .before .before .before .before .before .before .before .before .before .before .before .before .before .before .before .before .before .before .before .before .pre .0) _ _ (sym (c .before .before .before .close .ensures) ∙ c .before .q .given .1)
 
 returns : tie.Need-returns Inv-loop μ-loop
-returns c = c .refuse .ensures ∙ node-sticks (c .before .before .before .before .before .before .before .before .before .before .before .before .before .before .before .loop .inv) (c .before .before .before .before .before .before .before .before .before .before .before .before .before .before .loop-test .taken) _ (closes-step (c .before .before .before .before .before .before .before .before .before)) _ (c .before .before .before .before .before .before .before .before .wide .ensures) (sym (c .before .before .before .close .ensures) ∙ c .before .enum-told .given .1)
+returns c = c .refused-answer .ensures ∙ node-sticks (c .before .before .before .before .before .before .before .before .before .before .before .before .before .before .before .loop .inv) (c .before .before .before .before .before .before .before .before .before .before .before .before .before .before .loop-test .taken) _ (closes-step (c .before .before .before .before .before .before .before .before .before)) _ (c .before .before .before .before .before .before .before .before .wide .ensures) (sym (c .before .before .before .close .ensures) ∙ c .before .enum-told .given .1)
 
 returns-2 : tie.Need-returns-2 Inv-loop μ-loop
-returns-2 c = c .refuse2 .ensures ∙ not-refused (c .before .before .before .before .before .before .loop .inv) (c .before .before .before .before .before .loop-test .taken) (sym (c .before .before .before .entry .ensures) ∙ c .before .enum-told2 .given .1) (c .before .before .before .before .before .before .before .before .before .before .before .pre .1 .0)
+returns-2 c = c .refused-answer2 .ensures ∙ not-refused (c .before .before .before .before .before .before .loop .inv) (c .before .before .before .before .before .loop-test .taken) (sym (c .before .before .before .entry .ensures) ∙ c .before .enum-told2 .given .1) (c .before .before .before .before .before .before .before .before .before .before .before .pre .1 .0)
 
 sub-number-in : tie.Need-sub-number-in Inv-loop μ-loop
 sub-number-in c = some-read (c .before .loop .inv) (c .loop-test .left) (c .before .before .before .before .before .before .pre .1 .0)
