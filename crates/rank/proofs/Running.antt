@@ -11,7 +11,8 @@ use lib.Seq.{take-nil, take-all, getD-set-same, getD-set-other, take-suc-set, le
 use lib.Dec.{ltb, eqb}
 use borrow.Author.Count.{below-more}
 use borrow.Author.Tests.{eqb-false, ltb-false}
-use Rattle.model.specs.Answers.{Outcome, result, refused}
+use Rattle.model.specs.Answers.{Outcome, result, refused, refusedBy}
+use Rattle.model.specs.declared.Refusal.{Refusal}
 use Rattle.model.specs.Table.{rowNumbered, rowIs}
 use Rattle.model.specs.Tree.{WellFormed}
 use Rattle.model.specs.Count.{product}
@@ -31,7 +32,7 @@ use Rattle.counts.specs.States.{held}
 use Rattle.tree.specs.Reading.{fresh, stepOf}
 use Rattle.tree.specs.declared.Reading.{Reading}
 use Rattle.tree.specs.declared.Step.the-variants.{Opens, Closes, Refuses}
-use Rattle.tree.proofs.Laws.{Read, opens-by, closes-by, opened, shut, refused-here, begins as read-begins}
+use Rattle.tree.proofs.Laws.{Read, refusing, opens-by, closes-by, opened, shut, refused-here, begins as read-begins}
 use Rattle.rank.specs.declared.Node.{Node}
 use Rattle.rank.specs.declared.Node.the-variants.{Reaches, Stuck}
 use Rattle.rank.specs.Machine.{nodeBy, nodeOf, numbered, run, machine}
@@ -95,14 +96,14 @@ module _ (node : ℕ → List ℕ → List ℕ → Node) (end : ℕ → ℕ → 
 pub step-opens : (s t : Reading) (e : ℕ) → stepOf s e ≡ Opens t → (eqb e 0 ≡ false) × (t .depth ≡ suc (s .depth))
 unfolding stepOf
 step-opens s t e p =
-    let h = opens-by (ltb 255 e || (eqb e 0 && eqb (s .depth) 0) || (s .begun && eqb (s .depth) 0)) (eqb e 0) _ _ t p in
+    let h = opens-by (refusing s e) (eqb e 0) _ _ _ t p in
     (h .1, ap (λ (r : Reading). r .depth) (h .2) ∙ add-one (s .depth))
 
 pub step-closes : (s t : Reading) (e : ℕ) → stepOf s e ≡ Closes t → (eqb e 0 ≡ true) × (s .depth ≡ suc (t .depth))
 unfolding stepOf
 step-closes s t e p =
-    let h = closes-by (ltb 255 e || (eqb e 0 && eqb (s .depth) 0) || (s .begun && eqb (s .depth) 0)) (eqb e 0) _ _ t p in
-    let a = or-false (ltb 255 e || (eqb e 0 && eqb (s .depth) 0)) (s .begun && eqb (s .depth) 0) (h .0) in
+    let h = closes-by (refusing s e) (eqb e 0) _ _ _ t p in
+    let a = or-false (ltb 255 e || (eqb e 0 && eqb (s .depth) 0)) (ltb 0 (s .place) && eqb (s .depth) 0) (h .0) in
     let b : (eqb e 0 && eqb (s .depth) 0) ≡ false = or-false (ltb 255 e) (eqb e 0 && eqb (s .depth) 0) (a .0) .1 in
     let n : eqb (s .depth) 0 ≡ false = rw (h .1) at b in
     let d : t .depth ≡ s .depth - 1 = ap (λ (r : Reading). r .depth) (h .2) in
@@ -323,9 +324,9 @@ module _ {rows accepting cs sums tree : List ℕ} {n : ℕ} {opens begins waitin
           }
 
     -- no entry of a tree is refused
-    pub not-refused : stepOf s (getD tree i 0) ≡ Refuses → WellFormed tree → refused 13 i ≡ machine rows n accepting cs sums tree
-    not-refused e well =
-        let z : refused 13 i ≡ result 0 = refused-here (r .reads) l e (result 0) ∙ tree-then-taken tree well (r .reads .few) (result 0) in
+    pub not-refused : (f : Refusal) → stepOf s (getD tree i 0) ≡ Refuses f → WellFormed tree → refusedBy f ≡ machine rows n accepting cs sums tree
+    not-refused f e well =
+        let z : refusedBy f ≡ result 0 = refused-here (r .reads) l f e (result 0) ∙ tree-then-taken tree well (r .reads .few) (result 0) in
         let y : _≡_ {A = ℕ} 0 1 = cc in
         absurd (omega arith)
 

@@ -146,8 +146,8 @@ fn number_tree(
                 }
             }
             // not reached: no entry of a tree is refused
-            Step::Refuses => {
-                return refused_answer(Kind::NotATree, i as u64);
+            Step::Refuses(r) => {
+                return Answer::Refused(r);
             }
         }
     }

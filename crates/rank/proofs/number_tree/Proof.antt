@@ -4,6 +4,7 @@ use mathlib.Core.Path.{_≡_, refl, sym, _∙_}
 use lib.ListN.{length, getD, length-replicate}
 use Rattle.tree.specs.Reading.{stepOf}
 use Rattle.tree.specs.declared.Step.the-variants.{Opens, Closes}
+use Rattle.tree.proofs.Laws.{reads-on}
 use Rattle.rank.proofs.Running.{Running, running-begins, few-wait, open-room, node-opens, close-depth, close-under, close-room, close-fits, node-sticks, node-closes, not-refused, some-read, end-sums, tree-ends}
 use Rattle.rank.proofs.number_tree.Statement.{statement}
 use borrow.Author.Needs.{needs}
@@ -40,7 +41,7 @@ loop-holds : tie.Need-loop-holds Inv-loop μ-loop
 loop-holds c = running-begins _ _ _ _ _ _ _ _ _ _ _ (c .before .before .before .before .pre .1 .1) (c .new .ensures) (length-replicate {A = ℕ} 2048 0) (length-replicate {A = ℕ} 2048 0) (length-replicate {A = ℕ} 2048 0) (length-replicate {A = ℕ} 2048 0)
 
 entry-requires : tie.Need-entry-requires Inv-loop μ-loop
-entry-requires c κs = omega (arith, c .before .before .loop .inv .deep)
+entry-requires c κs = reads-on (c .before .before .loop .inv .reads) (c .before .loop-test .taken)
 
 sub-d : tie.Need-sub-d Inv-loop μ-loop
 sub-d c = opens-room (c .before) .1
@@ -124,7 +125,7 @@ returns : tie.Need-returns Inv-loop μ-loop
 returns c = c .refused-answer .ensures ∙ node-sticks (c .before .before .before .before .before .before .before .before .before .before .before .before .before .before .before .loop .inv) (c .before .before .before .before .before .before .before .before .before .before .before .before .before .before .loop-test .taken) _ (closes-step (c .before .before .before .before .before .before .before .before .before)) _ (c .before .before .before .before .before .before .before .before .wide .ensures) (sym (c .before .before .before .close .ensures) ∙ c .before .enum-told .given .1)
 
 returns-2 : tie.Need-returns-2 Inv-loop μ-loop
-returns-2 c = c .refused-answer2 .ensures ∙ not-refused (c .before .before .before .before .before .before .loop .inv) (c .before .before .before .before .before .loop-test .taken) (sym (c .before .before .before .entry .ensures) ∙ c .before .enum-told2 .given .1) (c .before .before .before .before .before .before .before .before .before .before .before .pre .1 .0)
+returns-2 c = not-refused (c .before .before .before .before .before .before .loop .inv) (c .before .before .before .before .before .loop-test .taken) _ (sym (c .before .before .before .entry .ensures) ∙ c .before .r .given .1) (c .before .before .before .before .before .before .before .before .before .before .before .pre .1 .0)
 
 sub-number-in : tie.Need-sub-number-in Inv-loop μ-loop
 sub-number-in c = some-read (c .before .loop .inv) (c .loop-test .left) (c .before .before .before .before .before .before .pre .1 .0)
@@ -186,7 +187,6 @@ number-tree-spec =
     (λ c κs. search needs)
     returns
     (λ c. search needs)
-    (λ c κs. search needs)
     returns-2
     (λ c. search needs)
     (λ c. search needs)
