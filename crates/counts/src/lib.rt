@@ -146,7 +146,8 @@ fn count_state(
     q: usize,
 ) -> Counted
     requires { ⌜ Countable (now rows) (now offsets) (now first) (now after) (now counts) (now longest) (now sums) q ⌝ }
-    ensures { λ r. ⌜ Summed (now (rows .entry)) (now (counts .entry)) (now (longest .entry)) q (now (sums .entry)) (now (sums .exit)) r ⌝ }
+    ensures { λ r. ⌜ Summed (now (rows .entry)) (now (counts .entry)) (now (longest .entry)) q
+        (now (sums .entry)) (now (sums .exit)) r ⌝ }
 {
     let mut count: u64 = 0;
     let mut long: u64 = 0;

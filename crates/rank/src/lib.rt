@@ -56,7 +56,8 @@ fn close(
     requires { ⌜ Laid (now rows) (now offsets) n ⌝ }
     requires { ⌜ Index (now rows) n (now heads) (now next) ⌝ }
     requires { ⌜ Closable (now rows) n (now counts) (now sums) symbol (now states) (now values) ⌝ }
-    ensures { λ r. ⌜ r ≡ nodeOf (now (rows .entry)) n (now (counts .entry)) (now (sums .entry)) symbol (now (states .entry)) (now (values .entry)) ⌝ }
+    ensures { λ r. ⌜ r ≡ nodeOf (now (rows .entry)) n (now (counts .entry)) (now (sums .entry))
+        symbol (now (states .entry)) (now (values .entry)) ⌝ }
 {
     match index::find_row(rows, offsets, heads, next, n, symbol, states) {
         Found::At(k) => {
@@ -100,7 +101,8 @@ fn number_tree(
 ) -> Answer
     requires { ⌜ RankReady (now rows) (now accepting) (now offsets) (now heads) (now next) (now counts) (now sums) n ⌝ }
     requires { ⌜ WellFormed (now tree) × (length (now tree) ≤ 4096) ⌝ }
-    ensures { λ r. ⌜ outcome r ≡ machine (now (rows .entry)) n (now (accepting .entry)) (now (counts .entry)) (now (sums .entry)) (now (tree .entry)) ⌝ }
+    ensures { λ r. ⌜ outcome r ≡ machine (now (rows .entry)) n (now (accepting .entry))
+        (now (counts .entry)) (now (sums .entry)) (now (tree .entry)) ⌝ }
 {
     let mut opens = [0u16; 2048];
     let mut begins = [0u16; 2048];

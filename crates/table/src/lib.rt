@@ -73,8 +73,10 @@ fn check_states(
     longest: &mut [u64; 256],
     sums: &mut [u64; 1024],
 ) -> Checked
-    requires { ⌜ StatesReady states (now rows) (now accepting) n (now offsets) (now first) (now after) (now counts) (now longest) (now sums) ⌝ }
-    ensures { λ r. ⌜ StatesAnswer states (now (rows .entry)) (now (accepting .entry)) n (now (first .exit)) (now (after .exit)) (now (counts .exit)) (now (longest .exit)) (now (sums .exit)) r ⌝ }
+    requires { ⌜ StatesReady states (now rows) (now accepting) n (now offsets)
+        (now first) (now after) (now counts) (now longest) (now sums) ⌝ }
+    ensures { λ r. ⌜ StatesAnswer states (now (rows .entry)) (now (accepting .entry)) n
+        (now (first .exit)) (now (after .exit)) (now (counts .exit)) (now (longest .exit)) (now (sums .exit)) r ⌝ }
 {
     counts::chain_rows(rows, offsets, n, first, after);
     match counts::count_states(
@@ -113,7 +115,9 @@ pub fn check_into(
     sums: &mut [u64; 1024],
 ) -> Checked
     requires { ⌜ Blank (now offsets) (now heads) (now next) (now first) (now after) (now counts) (now longest) (now sums) ⌝ }
-    ensures { λ r. ⌜ CheckAnswer states (now (rows .entry)) (now (accepting .entry)) (now (offsets .exit)) (now (heads .exit)) (now (next .exit)) (now (first .exit)) (now (after .exit)) (now (counts .exit)) (now (longest .exit)) (now (sums .exit)) r ⌝ }
+    ensures { λ r. ⌜ CheckAnswer states (now (rows .entry)) (now (accepting .entry))
+        (now (offsets .exit)) (now (heads .exit)) (now (next .exit)) (now (first .exit)) (now (after .exit))
+        (now (counts .exit)) (now (longest .exit)) (now (sums .exit)) r ⌝ }
 {
     if 256 < states {
         return Checked::Refuses(refuse(Kind::TooManyStates, 0));

@@ -213,7 +213,8 @@ fn write_number(
     tree: &mut [u16],
 ) -> Answer
     requires { ⌜ NumberReady (now rows) (now accepting) (now offsets) (now first) (now after) (now counts) (now sums) number ⌝ }
-    ensures { λ r. ⌜ WroteNumber (now (rows .entry)) (now (accepting .entry)) (now (counts .entry)) number (now (tree .entry)) (now (tree .exit)) r ⌝ }
+    ensures { λ r. ⌜ WroteNumber (now (rows .entry)) (now (accepting .entry)) (now (counts .entry)) number
+        (now (tree .entry)) (now (tree .exit)) r ⌝ }
 {
     let spot = find_state(accepting, counts, number);
     let q = spot.state;
