@@ -8,8 +8,8 @@ use tree::Form;
 use tree::Reading;
 use tree::Step;
 ghost use mathlib.Core.Path.{_≡_};
-ghost use Prim.Native.Nat.{_≤_};
-ghost use lib.ListN.{length};
+ghost use Prim.Native.Nat.{_<_, _≤_};
+ghost use lib.ListN.{length, set};
 ghost use Rattle.model.specs.Answers.{outcome};
 ghost use Rattle.model.specs.Tree.{WellFormed};
 ghost use Rattle.model.specs.Value.{horner};
@@ -87,6 +87,24 @@ fn number_in(accepting: &[u16], counts: &[u64; 256], q: u16, value: u64, place: 
     refused_answer(Kind::NotAccepted, place as u64)
 }
 
+// Opens a node over d others: its symbol, and how many states are waiting.
+fn open_node(opens: &mut [u16; 2048], begins: &mut [u16; 2048], d: usize, symbol: u16, w: usize)
+    requires { ⌜ (d < 2048) × (w ≤ 2048) ⌝ }
+    ensures { λ r. ⌜ (now (opens .exit) ≡ set (now (opens .entry)) d symbol) × (now (begins .exit) ≡ set (now (begins .entry)) d w) ⌝ }
+{
+    opens[d] = symbol;
+    begins[d] = w as u16;
+}
+
+// A closed node's state and value take the place of its children's, which begin with the b-th that waits.
+fn put_node(waiting: &mut [u16; 2048], values: &mut [u64; 2048], b: usize, q: u16, v: u64)
+    requires { ⌜ b < 2048 ⌝ }
+    ensures { λ r. ⌜ (now (waiting .exit) ≡ set (now (waiting .entry)) b q) × (now (values .exit) ≡ set (now (values .entry)) b v) ⌝ }
+{
+    waiting[b] = q;
+    values[b] = v;
+}
+
 // The number of a tree, entry by entry: an entry opens a node, or closes one whose children's states and values are waiting.
 fn number_tree(
     rows: &[u16],
@@ -114,9 +132,7 @@ fn number_tree(
     while i < tree.len() {
         match s.entry(tree[i]) {
             Step::Opens(t) => {
-                let d = t.depth - 1;
-                opens[d] = tree[i];
-                begins[d] = w as u16;
+                open_node(&mut opens, &mut begins, t.depth - 1, tree[i], w);
                 s = t;
                 i += 1;
             }
@@ -136,8 +152,7 @@ fn number_tree(
                     &values[b..w],
                 ) {
                     Node::Reaches(q, v) => {
-                        waiting[b] = q;
-                        values[b] = v;
+                        put_node(&mut waiting, &mut values, b, q, v);
                         w = b + 1;
                         s = t;
                         i += 1;

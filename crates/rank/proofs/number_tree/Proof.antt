@@ -43,26 +43,14 @@ loop-holds c = running-begins _ _ _ _ _ _ _ _ _ _ _ (c .before .before .before .
 entry-requires : tie.Need-entry-requires Inv-loop μ-loop
 entry-requires c κs = reads-on (c .before .before .loop .inv .reads) (c .before .loop-test .taken)
 
-sub-d : tie.Need-sub-d Inv-loop μ-loop
-sub-d c = opens-room (c .before) .1
+sub-open-node : tie.Need-sub-open-node Inv-loop μ-loop
+sub-open-node c = opens-room (c .before .before .before) .1
 
-mul-opens-2 : tie.Need-mul-opens-2 Inv-loop μ-loop
-mul-opens-2 c = omega (arith, opens-room (c .before .before))
-
-array-write-opens : tie.Need-array-write-opens Inv-loop μ-loop
-array-write-opens c = opens-room (c .before .before) .0
-
-cast-begins : tie.Need-cast-begins Inv-loop μ-loop
-cast-begins c = omega (arith, few-wait (c .before .before .before .before .before .before .before .before .loop .inv))
-
-mul-begins : tie.Need-mul-begins Inv-loop μ-loop
-mul-begins c = omega (arith, opens-room (c .before .before))
-
-array-write-begins : tie.Need-array-write-begins Inv-loop μ-loop
-array-write-begins c = opens-room (c .before .before) .0
+open-node-requires : tie.Need-open-node-requires Inv-loop μ-loop
+open-node-requires c κs = (opens-room (c .before .before .before .before) .0, few-wait (c .before .before .before .before .before .before .before .before .before .before .loop .inv))
 
 loop-again : tie.Need-loop-again Inv-loop μ-loop
-loop-again c = node-opens (c .before .before .before .before .before .before .before .before .loop .inv) (c .before .before .before .before .before .before .before .loop-test .taken) _ (opens-step (c .before .before)) (c .before .before .before .before .before .before .before .before .before .before .before .before .before .pre .1 .0)
+loop-again c = node-opens (c .before .before .before .before .before .before .before .before .before .before .before .loop .inv) (c .before .before .before .before .before .before .before .before .before .before .loop-test .taken) _ (opens-step (c .before .before .before .before .before)) (c .before .before .before .before .before .before .before .before .before .before .before .before .before .before .before .before .pre .1 .0) _ _ (c .open-node .ensures)
 
 mul-wide : tie.Need-mul-wide Inv-loop μ-loop
 mul-wide c = omega (arith, closes-room c)
@@ -103,23 +91,14 @@ part-close-end-2 c = omega (arith, room (c .before .before .before), c .before .
 close-requires : tie.Need-close-requires Inv-loop μ-loop
 close-requires c κs = (c .before .before .before .before .before .before .before .before .before .before .before .before .before .before .before .before .pre .0 .laid, (c .before .before .before .before .before .before .before .before .before .before .before .before .before .before .before .before .pre .0 .index, close-fits (c .before .before .before .before .before .before .before .before .before .before .before .loop .inv) (c .before .before .before .before .before .before .before .before .before .before .loop-test .taken) _ (closes-step (c .before .before .before .before .before)) _ (c .before .before .before .before .wide .ensures) (c .before .before .before .before .before .before .before .before .before .before .before .before .before .before .before .before .pre .0)))
 
-mul-waiting : tie.Need-mul-waiting Inv-loop μ-loop
-mul-waiting c = omega (arith, room (c .before .before .before .before .before .before .before .before))
-
-array-write-waiting : tie.Need-array-write-waiting Inv-loop μ-loop
-array-write-waiting c = room (c .before .before .before .before .before .before .before .before) .1
-
-mul-values : tie.Need-mul-values Inv-loop μ-loop
-mul-values c = omega (arith, room (c .before .before .before .before .before .before .before .before))
-
-array-write-values : tie.Need-array-write-values Inv-loop μ-loop
-array-write-values c = room (c .before .before .before .before .before .before .before .before) .1
+put-node-requires : tie.Need-put-node-requires Inv-loop μ-loop
+put-node-requires c κs = room (c .before .before .before .before .before .before .before .before .before .before) .1
 
 add-w : tie.Need-add-w Inv-loop μ-loop
-add-w c = omega (arith, room (c .before .before .before .before .before .before .before .before))
+add-w c = omega (arith, room (c .before .before .before .before .before .before .before .before .before .before .before))
 
 loop-again-2 : tie.Need-loop-again-2 Inv-loop μ-loop
-loop-again-2 c = node-closes (c .before .before .before .before .before .before .before .before .before .before .before .before .before .before .before .loop .inv) (c .before .before .before .before .before .before .before .before .before .before .before .before .before .before .loop-test .taken) _ (closes-step (c .before .before .before .before .before .before .before .before .before)) _ (c .before .before .before .before .before .before .before .before .wide .ensures) (c .before .before .before .before .before .before .before .before .before .before .before .before .before .before .before .before .before .before .before .before .pre .0) _ _ (sym (c .before .before .before .close .ensures) ∙ c .before .q .given .1)
+loop-again-2 c = node-closes (c .before .before .before .before .before .before .before .before .before .before .before .before .before .before .before .before .before .before .loop .inv) (c .before .before .before .before .before .before .before .before .before .before .before .before .before .before .before .before .before .loop-test .taken) _ (closes-step (c .before .before .before .before .before .before .before .before .before .before .before .before)) _ (c .before .before .before .before .before .before .before .before .before .before .before .wide .ensures) (c .before .before .before .before .before .before .before .before .before .before .before .before .before .before .before .before .before .before .before .before .before .before .before .pre .0) _ _ (sym (c .before .before .before .before .before .before .close .ensures) ∙ c .before .before .before .before .q .given .1) _ _ (c .put-node .ensures)
 
 returns : tie.Need-returns Inv-loop μ-loop
 returns c = c .refused-answer .ensures ∙ node-sticks (c .before .before .before .before .before .before .before .before .before .before .before .before .before .before .before .loop .inv) (c .before .before .before .before .before .before .before .before .before .before .before .before .before .before .loop-test .taken) _ (closes-step (c .before .before .before .before .before .before .before .before .before)) _ (c .before .before .before .before .before .before .before .before .wide .ensures) (sym (c .before .before .before .close .ensures) ∙ c .before .enum-told .given .1)
@@ -148,14 +127,10 @@ number-tree-spec =
     (λ c. search needs)
     entry-requires
     (λ c. search needs)
-    sub-d
+    sub-open-node
     (λ c. search needs)
     (λ c. search needs)
-    mul-opens-2
-    array-write-opens
-    cast-begins
-    mul-begins
-    array-write-begins
+    open-node-requires
     (λ c. search needs)
     (λ c. search needs)
     loop-again
@@ -175,10 +150,7 @@ number-tree-spec =
     part-close-end-2
     close-requires
     (λ c. search needs)
-    mul-waiting
-    array-write-waiting
-    mul-values
-    array-write-values
+    put-node-requires
     add-w
     (λ c. search needs)
     (λ c. search needs)
