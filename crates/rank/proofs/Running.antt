@@ -46,7 +46,7 @@ unfoldable pub stackOf : ℕ → List ℕ → List ℕ
 stackOf zero xs = []
 stackOf (suc d) xs = getD xs d 0 ∷ stackOf d xs
 
--- a store at or above d does not show
+-- a store at d or above leaves the first d elements as they are
 stack-same : (d j : ℕ) (xs : List ℕ) (x : ℕ) → d ≤ j → stackOf d (set xs j x) ≡ stackOf d xs
 unfolding stackOf
 stack-same zero j xs x le = refl
@@ -243,7 +243,7 @@ module _ {rows accepting cs sums tree : List ℕ} {n : ℕ} {opens begins waitin
                 ∙ open-same (t .depth - 1) q m;
           })
 
-    -- the entry closes a node, whose children began with the b-th that waits
+    -- the entry closes a node, whose children stand from b on among those that wait
     module _ (t : Reading) (e : stepOf s (getD tree i 0) ≡ Closes t) (b : ℕ) (at : b ≡ getD begins (t .depth) 0) where
       deeper : s .depth ≡ suc (t .depth)
       deeper = step-closes s t (getD tree i 0) e .1

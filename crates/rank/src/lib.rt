@@ -26,7 +26,7 @@ enum Node {
     Stuck,
 }
 
-// The values of the children together, from the first, by the counts of their states.
+// The children's values as one: for each child from the first, multiply by the count of its state and add its value.
 fn fold(states: &[u16], values: &[u64], counts: &[u64; 256]) -> u64
     requires { ⌜ Foldable (now counts) (now states) (now values) ⌝ }
     ensures { λ r. ⌜ r ≡ horner (held (now (counts .entry))) 0 (now (states .entry)) (now (values .entry)) ⌝ }
@@ -68,8 +68,8 @@ fn close(
     }
 }
 
-// The number of a tree with this state and value, where the state is listed: 14 at the place where it is not. The value is added last, so
-// that no sum goes beyond the total.
+// The number of a tree with this state and value; 14 at the given place if the state is not listed. The value is added last, so that no sum
+// goes beyond the total.
 fn number_in(accepting: &[u16], counts: &[u64; 256], q: u16, value: u64, place: usize) -> Answer
     requires { ⌜ Summable (now accepting) (now counts) q value ⌝ }
     ensures { λ r. ⌜ outcome r ≡ numbered (now (accepting .entry)) (now (counts .entry)) q value place ⌝ }
@@ -87,7 +87,7 @@ fn number_in(accepting: &[u16], counts: &[u64; 256], q: u16, value: u64, place: 
     refused_answer(Kind::NotAccepted, place as u64)
 }
 
-// Opens a node over d others: its symbol, and how many states are waiting.
+// Opens a node inside d open ones: stores its symbol, and how many states are waiting.
 fn open_node(opens: &mut [u16; 2048], begins: &mut [u16; 2048], d: usize, symbol: u16, w: usize)
     requires { ⌜ (d < 2048) × (w ≤ 2048) ⌝ }
     ensures { λ r. ⌜ (now (opens .exit) ≡ set (now (opens .entry)) d symbol) × (now (begins .exit) ≡ set (now (begins .entry)) d w) ⌝ }
@@ -96,7 +96,7 @@ fn open_node(opens: &mut [u16; 2048], begins: &mut [u16; 2048], d: usize, symbol
     begins[d] = w as u16;
 }
 
-// A closed node's state and value take the place of its children's, which begin with the b-th that waits.
+// Stores the state and the value of a closed node in place of its children's, which stand from b on.
 fn put_node(waiting: &mut [u16; 2048], values: &mut [u64; 2048], b: usize, q: u16, v: u64)
     requires { ⌜ b < 2048 ⌝ }
     ensures { λ r. ⌜ (now (waiting .exit) ≡ set (now (waiting .entry)) b q) × (now (values .exit) ≡ set (now (values .entry)) b v) ⌝ }
@@ -122,8 +122,10 @@ fn number_tree(
     ensures { λ r. ⌜ outcome r ≡ machine (now (rows .entry)) n (now (accepting .entry))
         (now (counts .entry)) (now (sums .entry)) (now (tree .entry)) ⌝ }
 {
+    // of each open node: its symbol, and how many states were waiting when it was opened
     let mut opens = [0u16; 2048];
     let mut begins = [0u16; 2048];
+    // the first w: the states and the values of closed nodes that wait for their parent's bar
     let mut waiting = [0u16; 2048];
     let mut values = [0u64; 2048];
     let mut w: usize = 0;

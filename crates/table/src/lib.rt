@@ -41,7 +41,7 @@ fn faulty_entry(states: u64, accepting: &[u16]) -> Found
     Found::Nothing
 }
 
-// The rows in turn by the grounds 2 to 6: how many there are, with their offsets and their index; or the first faulty one.
+// Tests the rows in turn by the grounds 2 to 6, and stores their offsets and their index. Gives how many there are, or the first faulty one.
 fn check_rows(
     states: u64,
     rows: &[u16],
@@ -60,7 +60,7 @@ fn check_rows(
     }
 }
 
-// The check from the states on, for rows and an accepting list that are without fault.
+// The rest of the check, from the states on, where the rows and the accepting list are without fault.
 fn check_states(
     states: usize,
     rows: &[u16],

@@ -11,7 +11,7 @@ ghost use Rattle.unrank.specs.UnrankReady.{ValueReady, NumberReady};
 ghost use Rattle.unrank.specs.Trees.{Opening, openedAt, Enters, Shared, childOf, valueEntries, Wrote, ListReady, spotOf};
 ghost use Rattle.unrank.specs.Written.{WroteNumber, WroteTree};
 
-// A row, entered with a value: its symbol, where it begins, what it counts, and what is left of the value in it.
+// The row in which a value falls: its symbol, where it begins, what it counts, and the value less what the state's earlier rows count.
 pub struct Entered {
     pub symbol: u16,
     pub at: usize,
@@ -19,7 +19,7 @@ pub struct Entered {
     pub rest: u64,
 }
 
-// A child: its state and value; what the children after it count together, and what is left for them.
+// A child: its state and its value; the product of the counts of the children after it, and what is left of the value for them.
 pub struct Child {
     pub state: usize,
     pub value: u64,
@@ -33,7 +33,7 @@ pub struct Spot {
     pub value: u64,
 }
 
-// Row r, entered with a value; the values in it are below `end`.
+// Row r as the row in which the value falls; `end` is the first value beyond the row.
 fn enter_row(
     rows: &[u16],
     offsets: &[u16; 1024],
@@ -81,7 +81,7 @@ fn find_row(
     enter_row(rows, offsets, sums, r, counts[q], value)
 }
 
-// Child k of a row, where the children from it on count w together and h is left for them.
+// Child k of a row, where w is the product of the counts of the children from k on, and h is what is left of the value for them.
 fn child_at(args: &[u16], counts: &[u64; 256], k: usize, w: u64, h: u64) -> Child
     requires { ⌜ Shared (now args) (now counts) k w ⌝ }
     ensures { λ c. ⌜ c ≡ childOf (now (args .entry)) (now (counts .entry)) k w h ⌝ }
