@@ -13,16 +13,16 @@ use Rattle.chains.specs.First.{firstWith}
 use Rattle.chains.specs.Chains.{Link, Chains, Clear}
 use Rattle.chains.proofs.First.{none-first, first-at}
 
--- a chain is walked for the number sought, whose bucket is b
+-- bucket b's chain is walked, to find the first number for which `sought` holds
 module _ (bucket : ℕ → ℕ) (sought : ℕ → Bool) (b : ℕ) where
-  -- no number from p on is sought, and p - 1 is in the bucket
+  -- `sought` holds for no number from p on, and p - 1 is in the bucket
   pub record Walk (n p : ℕ) : Type 0 where
     pub within : p ≤ n
     pub mine : 0 < p → bucket (p - 1) ≡ b
     pub past : (k : ℕ) → p ≤ k → k < n → sought k ≡ true → ⊥
 
   module _ {n : ℕ} (p : ℕ) (w : Walk n p) where
-    -- the number it meets is the first that is sought, where no earlier one is
+    -- a number for which `sought` holds is the first, where it holds for no earlier one
     pub walk-finds : 0 < p → sought (p - 1) ≡ true → ((k : ℕ) → k < p - 1 → sought k ≡ true → ⊥) → At (p - 1) ≡ firstWith sought n
     walk-finds pos t earlier = sym (first-at sought n (p - 1) (omega (arith, w .within)) t earlier)
 
@@ -41,7 +41,7 @@ module _ (bucket : ℕ → ℕ) (sought : ℕ → Bool) (b : ℕ) where
           past = λ k le kn t. l .gap k le kn (in-bucket k t);
         }
 
-    -- it goes on where p - 1 is not sought
+    -- the walk goes on where `sought` does not hold for p - 1
     pub walk-goes : (p : ℕ) → Walk n p → 0 < p → sought (p - 1) ≡ false → Walk n (getD next (p - 1) 0)
     walk-goes p w pos f =
         let l = x .next-link (p - 1) (omega (arith, w .within)) in

@@ -96,7 +96,7 @@ module _ {states : ℕ} {rows offsets first after cs ls sums : List ℕ} {q : �
   }
 
   module _ {sums′ : List ℕ} {s : Counted} (y : Summed rows cs ls q sums sums′ s) where
-    -- what was found for the state is what document 01 says, each kept to its ceiling
+    -- what was found for the state is what document 01 says, each capped at its ceiling
     state-count : s .count ≡ min (count (rowTable states rows) q) ceiling
     state-count =
         y .count ∙ ap (λ (v : ℕ). min v ceiling)

@@ -1,4 +1,4 @@
--- Products and sums that are kept to a limit on the way. Assumes nothing.
+-- Products and sums that are capped at every step. Assumes nothing.
 use Prim.Native.Nat.{ℕ, zero, suc, _+_, _*_, _^_, _<_, _≤_, min}
 use mathlib.Core.Path.{_≡_, refl, sym, ap, _∙_}
 use mathlib.Core.Bool.{Bool, true, false}
@@ -13,7 +13,7 @@ use Rattle.model.specs.Check.{countLimit}
 use Rattle.model.proofs.Lists.{drop-next}
 use Rattle.counts.specs.States.{ceiling, lengthCeiling}
 
--- a product kept to a limit may be kept to it on the way: 0 stays 0, and what is above stays above
+-- a capped product may be capped at every step: a later factor 0 still gives 0
 pub kept-times : (l p c : ℕ) → min (min p l * c) l ≡ min (p * c) l
 kept-times l p zero = simp mul-zero
 kept-times l p (suc c) = go (leb p l) refl
@@ -26,7 +26,7 @@ kept-times l p (suc c) = go (leb p l) refl
         let b : p ≤ p * suc c = le-mul-of-pos-right p (omega arith) in
         rw (min-eq-right (le-of-lt gt)) (omega arith)
 
--- the product of a kept number and one below the limit fits
+-- the product of a capped number and one below the cap fits
 pub fits-times : (w c : ℕ) → w ≤ ceiling → c < ceiling → w * c < 2 ^ 64
 fits-times w c a b = let h : c ≤ countLimit = omega arith in omega (arith, mul-le-mul a h)
 
@@ -50,7 +50,7 @@ module _ (f : ℕ → ℕ) (args : List ℕ) (i : ℕ) (lt : i < length args) wh
       ∙ ap (λ (v : ℕ). min (w * v) l) (sym product-next)
       ∙ h
 
-  -- a sum kept to a limit may be kept to it on the way
+  -- a capped sum may be capped at every step
   pub kept-goes : (l t t′ x all : ℕ) → x ≡ f (getD args i 0) → t′ ≡ min (t + x) l → min (t + sum (map f (drop i args))) l ≡ all
       → min (t′ + sum (map f (drop (i + 1) args))) l ≡ all
   kept-goes l t t′ x all ex et h = omega (arith, sum-next)
@@ -63,7 +63,7 @@ pub kept-ends : (f : ℕ → ℕ) (args : List ℕ) (i l t all : ℕ) → length
 unfolding sum
 kept-ends f args i l t all ge le h = omega (arith, rw (drop-of-length-le args {i = i} ge) at h)
 
--- a length kept to its ceiling is above 4,096 just where the length is, and is the length itself where it is not
+-- a length capped at its ceiling is above 4,096 just where the length is, and is the length itself where it is not
 pub kept-above : (n : ℕ) → ltb 4096 (min n lengthCeiling) ≡ ltb 4096 n
 kept-above n = go (leb n 4096) refl
   where

@@ -31,7 +31,7 @@ skip F op more none xs i (suc j) le z = go (ltb j i) refl (skip F op more none x
         let ge : i ≤ j = ltb-false j i e in
         more xs j ∙ ap (λ (v : ℕ). op (F (take j xs)) v) (z j ge (omega arith)) ∙ none (F (take j xs)) ∙ ih ge (λ k a b. z k a (omega arith))
 
--- a largest number kept to a limit may be kept to it on the way
+-- a capped maximum may be capped at every step
 kept-larger : (l m n : ℕ) → min (max (min m l) n) l ≡ min (max m n) l
 kept-larger l m n = omega arith
 

@@ -1,4 +1,4 @@
--- Counts and longest trees, state by state, kept to a limit. Assumes nothing: these are definitions.
+-- Counts and longest trees, state by state, capped above their limits. Assumes nothing: these are definitions.
 use Prim.Native.Nat.{ℕ, _+_, _<_, _≤_, min, max}
 use mathlib.Core.Path.{_≡_}
 use mathlib.Core.List.{List, [], map}
@@ -18,7 +18,7 @@ use Rattle.chains.specs.First.{AllFine, FirstAt}
 use Rattle.rows.specs.Laid.{Laid}
 use Rattle.counts.specs.Chain.{target, InOrder, Chained}
 
--- the first number above the limit: what is kept to it is right below it, and above the limit where it should be
+-- the first number above the limit: what is capped at it is exact up to the limit, and otherwise still above it
 abbrev pub ceiling : ℕ
 ceiling = countLimit + 1
 

@@ -13,16 +13,17 @@ ghost use Rattle.counts.specs.States.{ceiling, lengthCeiling, held, Args
 // The largest count and the largest total that pass.
 pub const LIMIT: u64 = 4294967295;
 
-// What is kept to this is right up to the limit, and above it where it should be.
+// Counts, products and sums are capped at this, the first number above the limit: up to the limit they are exact, and a larger one is
+// still above it.
 const CEILING: u64 = LIMIT + 1;
 
 // The most entries that a state's longest tree may have.
 const LENGTH_LIMIT: u64 = 4096;
 
-// A length kept to this is right up to its limit, and above it where it should be, whatever the limit of counts is.
+// Lengths are capped at this, the first number above their limit.
 const LENGTH_CEILING: u64 = LENGTH_LIMIT + 1;
 
-// What a state counts, and how many entries its longest tree has, each kept to one above its limit.
+// What a state counts, and how many entries its longest tree has, each capped at one above its limit.
 pub struct Counted {
     pub count: u64,
     pub longest: u64,
@@ -34,7 +35,7 @@ pub enum StateFault {
     Nothing,
 }
 
-// A product kept to one above the limit: 0 stays 0, and what is above the limit stays above.
+// A product, capped at one above the limit. A capped factor does no harm: times 0 it gives 0, else the product is above the limit.
 fn times(w: u64, c: u64) -> u64
     requires { ⌜ (w ≤ ceiling) × (c < ceiling) ⌝ }
     ensures { λ r. ⌜ r ≡ min (w * c) ceiling ⌝ }
@@ -43,7 +44,7 @@ fn times(w: u64, c: u64) -> u64
     if CEILING < p { CEILING } else { p }
 }
 
-// A sum kept to one above the limit.
+// A sum, capped at one above the limit.
 fn plus(a: u64, b: u64) -> u64
     requires { ⌜ (a ≤ ceiling) × (b ≤ ceiling) ⌝ }
     ensures { λ r. ⌜ r ≡ min (a + b) ceiling ⌝ }
@@ -52,7 +53,7 @@ fn plus(a: u64, b: u64) -> u64
     if CEILING < s { CEILING } else { s }
 }
 
-// What a row with these arguments counts, kept to one above the limit.
+// What a row with these arguments counts, capped at one above the limit.
 fn row_count(args: &[u16], counts: &[u64; 256]) -> u64
     requires { ⌜ ArgsWithin countLimit (now counts) (now args) ⌝ }
     ensures { λ r. ⌜ r ≡ min (product (map (held (now (counts .entry))) (now (args .entry)))) ceiling ⌝ }
@@ -66,7 +67,7 @@ fn row_count(args: &[u16], counts: &[u64; 256]) -> u64
     w
 }
 
-// The sum of what is held for each entry of a list, kept to one above the limit.
+// The sum of the values of the states in a list, capped at one above the limit.
 pub fn sum_of(list: &[u16], values: &[u64; 256]) -> u64
     requires { ⌜ ArgsWithin countLimit (now values) (now list) ⌝ }
     ensures { λ r. ⌜ r ≡ min (sum (map (held (now (values .entry))) (now (list .entry)))) ceiling ⌝ }
@@ -80,7 +81,7 @@ pub fn sum_of(list: &[u16], values: &[u64; 256]) -> u64
     total
 }
 
-// How many entries the longest tree of a row with these arguments has, kept to one above the limit of lengths.
+// How many entries the longest tree of a row with these arguments has, capped at one above the limit of lengths.
 fn row_length(args: &[u16], longest: &[u64; 256]) -> u64
     requires { ⌜ (length (now args) ≤ 16) × ArgsWithin 4096 (now longest) (now args) ⌝ }
     ensures { λ r. ⌜ r ≡ min (2 + sum (map (held (now (longest .entry))) (now (args .entry)))) lengthCeiling ⌝ }
@@ -97,7 +98,8 @@ fn row_length(args: &[u16], longest: &[u64; 256]) -> u64
     n
 }
 
-// The longer of what was found and the longest tree of a row that counts w, kept to one above the limit of lengths.
+// The longer of the length found so far and the longest tree of a row that counts w, capped at one above the limit of lengths; a row that
+// counts 0 has no tree.
 fn longer_of(long: u64, w: u64, args: &[u16], longest: &[u64; 256]) -> u64
     requires { ⌜ (long ≤ lengthCeiling) × (length (now args) ≤ 16) × ArgsWithin 4096 (now longest) (now args) ⌝ }
     ensures { λ r. ⌜ r ≡ min (longer long w (now (longest .entry)) (now (args .entry))) lengthCeiling ⌝ }
@@ -134,7 +136,7 @@ pub fn chain_rows(
     }
 }
 
-// Counts state q by its rows, and puts for each of them the sum of those before it.
+// Counts state q by its rows, and stores for each row what the state's earlier rows count together.
 fn count_state(
     rows: &[u16],
     offsets: &[u16; 1024],
@@ -146,7 +148,8 @@ fn count_state(
     q: usize,
 ) -> Counted
     requires { ⌜ Countable (now rows) (now offsets) (now first) (now after) (now counts) (now longest) (now sums) q ⌝ }
-    ensures { λ r. ⌜ Summed (now (rows .entry)) (now (counts .entry)) (now (longest .entry)) q (now (sums .entry)) (now (sums .exit)) r ⌝ }
+    ensures { λ r. ⌜ Summed (now (rows .entry)) (now (counts .entry)) (now (longest .entry)) q
+        (now (sums .entry)) (now (sums .exit)) r ⌝ }
 {
     let mut count: u64 = 0;
     let mut long: u64 = 0;

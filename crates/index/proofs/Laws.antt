@@ -32,7 +32,7 @@ module _ (rows : List ℕ) (s : ℕ) (xs : List ℕ) where
   pub row-bucket : (b : ℕ) → b ≡ hashOf s xs → (k : ℕ) → sought k ≡ true → bucketOf rows k ≡ b
   row-bucket b e k t = let y = rowIs-true (rowNumbered rows k) s xs t in rw (y .0, y .1) (sym e)
 
-  -- among rows of which none repeats another no earlier row is sought too
+  -- where no row repeats another, no earlier row has this symbol and these arguments too
   pub no-earlier : (n : ℕ) → firstWith (repeated rows) n ≡ Nothing → (r : ℕ) → r < n → sought r ≡ true → (k : ℕ) → k < r → sought k ≡ true → ⊥
   unfolding repeated
   no-earlier n none r rn t k lt y =

@@ -11,7 +11,8 @@ use lib.Seq.{take-nil, take-all, getD-set-same, getD-set-other, take-suc-set, le
 use lib.Dec.{ltb, eqb}
 use borrow.Author.Count.{below-more}
 use borrow.Author.Tests.{eqb-false, ltb-false}
-use Rattle.model.specs.Answers.{Outcome, result, refused}
+use Rattle.model.specs.Answers.{Outcome, result, refused, refusedBy}
+use Rattle.model.specs.declared.Refusal.{Refusal}
 use Rattle.model.specs.Table.{rowNumbered, rowIs}
 use Rattle.model.specs.Tree.{WellFormed}
 use Rattle.model.specs.Count.{product}
@@ -31,7 +32,7 @@ use Rattle.counts.specs.States.{held}
 use Rattle.tree.specs.Reading.{fresh, stepOf}
 use Rattle.tree.specs.declared.Reading.{Reading}
 use Rattle.tree.specs.declared.Step.the-variants.{Opens, Closes, Refuses}
-use Rattle.tree.proofs.Laws.{Read, opens-by, closes-by, opened, shut, refused-here, begins as read-begins}
+use Rattle.tree.proofs.Laws.{Read, refusing, opens-by, closes-by, opened, shut, refused-here, begins as read-begins}
 use Rattle.rank.specs.declared.Node.{Node}
 use Rattle.rank.specs.declared.Node.the-variants.{Reaches, Stuck}
 use Rattle.rank.specs.Machine.{nodeBy, nodeOf, numbered, run, machine}
@@ -45,7 +46,7 @@ unfoldable pub stackOf : ℕ → List ℕ → List ℕ
 stackOf zero xs = []
 stackOf (suc d) xs = getD xs d 0 ∷ stackOf d xs
 
--- a store at or above d does not show
+-- a store at d or above leaves the first d elements as they are
 stack-same : (d j : ℕ) (xs : List ℕ) (x : ℕ) → d ≤ j → stackOf d (set xs j x) ≡ stackOf d xs
 unfolding stackOf
 stack-same zero j xs x le = refl
@@ -95,14 +96,14 @@ module _ (node : ℕ → List ℕ → List ℕ → Node) (end : ℕ → ℕ → 
 pub step-opens : (s t : Reading) (e : ℕ) → stepOf s e ≡ Opens t → (eqb e 0 ≡ false) × (t .depth ≡ suc (s .depth))
 unfolding stepOf
 step-opens s t e p =
-    let h = opens-by (ltb 255 e || (eqb e 0 && eqb (s .depth) 0) || (s .begun && eqb (s .depth) 0)) (eqb e 0) _ _ t p in
+    let h = opens-by (refusing s e) (eqb e 0) _ _ _ t p in
     (h .1, ap (λ (r : Reading). r .depth) (h .2) ∙ add-one (s .depth))
 
 pub step-closes : (s t : Reading) (e : ℕ) → stepOf s e ≡ Closes t → (eqb e 0 ≡ true) × (s .depth ≡ suc (t .depth))
 unfolding stepOf
 step-closes s t e p =
-    let h = closes-by (ltb 255 e || (eqb e 0 && eqb (s .depth) 0) || (s .begun && eqb (s .depth) 0)) (eqb e 0) _ _ t p in
-    let a = or-false (ltb 255 e || (eqb e 0 && eqb (s .depth) 0)) (s .begun && eqb (s .depth) 0) (h .0) in
+    let h = closes-by (refusing s e) (eqb e 0) _ _ _ t p in
+    let a = or-false (ltb 255 e || (eqb e 0 && eqb (s .depth) 0)) (ltb 0 (s .place) && eqb (s .depth) 0) (h .0) in
     let b : (eqb e 0 && eqb (s .depth) 0) ≡ false = or-false (ltb 255 e) (eqb e 0 && eqb (s .depth) 0) (a .0) .1 in
     let n : eqb (s .depth) 0 ≡ false = rw (h .1) at b in
     let d : t .depth ≡ s .depth - 1 = ap (λ (r : Reading). r .depth) (h .2) in
@@ -209,8 +210,9 @@ module _ {rows accepting cs sums tree : List ℕ} {n : ℕ} {opens begins waitin
           (step-opens s t (getD tree i 0) e .0)) ∙ here in
           rw (push d opens (getD tree i 0) (omega (arith, r .opens-long)), push d begins w (omega (arith, r .begins-long)), q) (rw size at h)
 
-      pub node-opens : Running rows accepting cs sums tree n (set opens (t .depth - 1) (getD tree i 0)) (set begins (t .depth - 1) w) waiting values w t (i + 1)
-      node-opens =
+      pub node-opens : (opens′ begins′ : List ℕ) → (opens′ ≡ set opens (t .depth - 1) (getD tree i 0)) × (begins′ ≡ set begins (t .depth - 1) w)
+          → Running rows accepting cs sums tree n opens′ begins′ waiting values w t (i + 1)
+      node-opens opens′ begins′ stored =
           let up : t .depth ≡ suc (s .depth) = step-opens s t (getD tree i 0) e .1 in
           let q : t .depth - 1 ≡ s .depth = omega arith in
           let m : t .depth - 1 < 2048 = open-room .0 in
@@ -219,7 +221,7 @@ module _ {rows accepting cs sums tree : List ℕ} {n : ℕ} {opens begins waitin
           let other : (j : ℕ) → j < t .depth - 1 → getD (set begins (t .depth - 1) w) j 0 ≡ getD begins j 0 = λ j lt. getD-set-other begins (t .depth - 1) j w 0 (omega arith) in
           let under′ : (j : ℕ) → j < t .depth - 1 + 1 → getD (set begins (t .depth - 1) w) j 0 ≤ w
           = below-more (λ (j : ℕ). getD (set begins (t .depth - 1) w) j 0 ≤ w) (t .depth - 1) (λ j lt. rw (other j lt) (r .under j (omega arith))) (rw there (omega arith)) in
-          record {
+          rw (stored .0, stored .1) (record {
             reads = opened (r .reads) l t e;
             opens-long = length-set opens (t .depth - 1) (getD tree i 0) ∙ r .opens-long;
             begins-long = length-set begins (t .depth - 1) w ∙ r .begins-long;
@@ -239,9 +241,9 @@ module _ {rows accepting cs sums tree : List ℕ} {n : ℕ} {opens begins waitin
                 ap (λ (k : ℕ). run (nodeOf rows n cs sums) (numbered accepting cs) (stackOf k (set opens (t .depth - 1) (getD tree i 0))) (stackOf k (set begins (t .depth - 1) w)) (take w waiting) (take w values) (i + 1) (drop (i + 1) tree))
                 (top ∙ add-one (t .depth - 1))
                 ∙ open-same (t .depth - 1) q m;
-          }
+          })
 
-    -- the entry closes a node, whose children began with the b-th that waits
+    -- the entry closes a node, whose children stand from b on among those that wait
     module _ (t : Reading) (e : stepOf s (getD tree i 0) ≡ Closes t) (b : ℕ) (at : b ≡ getD begins (t .depth) 0) where
       deeper : s .depth ≡ suc (t .depth)
       deeper = step-closes s t (getD tree i 0) e .1
@@ -294,14 +296,15 @@ module _ {rows accepting cs sums tree : List ℕ} {n : ℕ} {opens begins waitin
 
       pub node-closes : {offsets heads next : List ℕ} → RankReady rows accepting offsets heads next cs sums n → (q v : ℕ)
           → nodeOf rows n cs sums (getD opens (t .depth) 0) (take (w - b) (drop b waiting)) (take (w - b) (drop b values)) ≡ Reaches q v
-          → Running rows accepting cs sums tree n opens begins (set waiting b q) (set values b v) (b + 1) t (i + 1)
-      node-closes ready q v h =
+          → (waiting′ values′ : List ℕ) → (waiting′ ≡ set waiting b q) × (values′ ≡ set values b v)
+          → Running rows accepting cs sums tree n opens begins waiting′ values′ (b + 1) t (i + 1)
+      node-closes ready q v h waiting′ values′ stored =
           let x = node-below ready (getD opens (t .depth) 0) (take (w - b) (drop b waiting)) (take (w - b) (drop b values)) children q v h in
           let here-w : getD (set waiting b q) b 0 ≡ q = getD-set-same waiting b q 0 (omega (arith, close-room, r .waiting-long)) in
           let here-v : getD (set values b v) b 0 ≡ v = getD-set-same values b v 0 (omega (arith, close-room, r .values-long)) in
           let other-w : (j : ℕ) → j < b → getD (set waiting b q) j 0 ≡ getD waiting j 0 = λ j lt. getD-set-other waiting b j q 0 (omega arith) in
           let other-v : (j : ℕ) → j < b → getD (set values b v) j 0 ≡ getD values j 0 = λ j lt. getD-set-other values b j v 0 (omega arith) in
-          record {
+          rw (stored .0, stored .1) (record {
             reads = shut (r .reads) l t e;
             opens-long = r .opens-long;
             begins-long = r .begins-long;
@@ -320,12 +323,12 @@ module _ {rows accepting cs sums tree : List ℕ} {n : ℕ} {opens begins waitin
                 (sym (run-close (nodeOf rows n cs sums) (numbered accepting cs) (stackOf (t .depth) opens) (stackOf (t .depth) begins) (take w waiting) (take w values) i
                 (getD opens (t .depth) 0) b (getD tree i 0) (drop (i + 1) tree) (step-closes s t (getD tree i 0) e .0) q v (parts (Reaches q v) h))
                 ∙ at-bar);
-          }
+          })
 
     -- no entry of a tree is refused
-    pub not-refused : stepOf s (getD tree i 0) ≡ Refuses → WellFormed tree → refused 13 i ≡ machine rows n accepting cs sums tree
-    not-refused e well =
-        let z : refused 13 i ≡ result 0 = refused-here (r .reads) l e (result 0) ∙ tree-then-taken tree well (r .reads .few) (result 0) in
+    pub not-refused : (f : Refusal) → stepOf s (getD tree i 0) ≡ Refuses f → WellFormed tree → refusedBy f ≡ machine rows n accepting cs sums tree
+    not-refused f e well =
+        let z : refusedBy f ≡ result 0 = refused-here (r .reads) l f e (result 0) ∙ tree-then-taken tree well (r .reads .few) (result 0) in
         let y : _≡_ {A = ℕ} 0 1 = cc in
         absurd (omega arith)
 

@@ -61,7 +61,7 @@ module _ {accepting cs : List ℕ} {q earlier i : ℕ} (s : Summing accepting cs
         go f (yes m) = omega arith
         go f (no m) = absurd (s .others (entryOf accepting q) (lt-of-not-le m) (entryOf-is accepting q (omega (arith, lt-of-not-le m))))
 
-  -- it is nowhere
+  -- the state is not listed
   pub not-listed : length accepting ≤ i → (v place : ℕ) → refused 14 place ≡ numbered accepting cs q v place
   unfolding numbered
   not-listed g v place = go (decLe (length accepting) (entryOf accepting q))

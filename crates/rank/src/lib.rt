@@ -2,14 +2,14 @@
 use chains::Found;
 use model::Answer;
 use model::Kind;
-use model::refuse;
+use model::refused_answer;
 use table::Checked;
 use tree::Form;
 use tree::Reading;
 use tree::Step;
 ghost use mathlib.Core.Path.{_≡_};
-ghost use Prim.Native.Nat.{_≤_};
-ghost use lib.ListN.{length};
+ghost use Prim.Native.Nat.{_<_, _≤_};
+ghost use lib.ListN.{length, set};
 ghost use Rattle.model.specs.Answers.{outcome};
 ghost use Rattle.model.specs.Tree.{WellFormed};
 ghost use Rattle.model.specs.Value.{horner};
@@ -26,7 +26,7 @@ enum Node {
     Stuck,
 }
 
-// The values of the children together, from the first, by the counts of their states.
+// The children's values as one: for each child from the first, multiply by the count of its state and add its value.
 fn fold(states: &[u16], values: &[u64], counts: &[u64; 256]) -> u64
     requires { ⌜ Foldable (now counts) (now states) (now values) ⌝ }
     ensures { λ r. ⌜ r ≡ horner (held (now (counts .entry))) 0 (now (states .entry)) (now (values .entry)) ⌝ }
@@ -56,7 +56,8 @@ fn close(
     requires { ⌜ Laid (now rows) (now offsets) n ⌝ }
     requires { ⌜ Index (now rows) n (now heads) (now next) ⌝ }
     requires { ⌜ Closable (now rows) n (now counts) (now sums) symbol (now states) (now values) ⌝ }
-    ensures { λ r. ⌜ r ≡ nodeOf (now (rows .entry)) n (now (counts .entry)) (now (sums .entry)) symbol (now (states .entry)) (now (values .entry)) ⌝ }
+    ensures { λ r. ⌜ r ≡ nodeOf (now (rows .entry)) n (now (counts .entry)) (now (sums .entry))
+        symbol (now (states .entry)) (now (values .entry)) ⌝ }
 {
     match index::find_row(rows, offsets, heads, next, n, symbol, states) {
         Found::At(k) => {
@@ -67,8 +68,8 @@ fn close(
     }
 }
 
-// The number of a tree with this state and value, where the state is listed: 14 at the place where it is not. The value is added last, so
-// that no sum goes beyond the total.
+// The number of a tree with this state and value; 14 at the given place if the state is not listed. The value is added last, so that no sum
+// goes beyond the total.
 fn number_in(accepting: &[u16], counts: &[u64; 256], q: u16, value: u64, place: usize) -> Answer
     requires { ⌜ Summable (now accepting) (now counts) q value ⌝ }
     ensures { λ r. ⌜ outcome r ≡ numbered (now (accepting .entry)) (now (counts .entry)) q value place ⌝ }
@@ -83,7 +84,25 @@ fn number_in(accepting: &[u16], counts: &[u64; 256], q: u16, value: u64, place: 
         earlier += counts[chains::wide(accepting[i])];
         i += 1;
     }
-    Answer::Refused(refuse(Kind::NotAccepted, place as u64))
+    refused_answer(Kind::NotAccepted, place as u64)
+}
+
+// Opens a node inside d open ones: stores its symbol, and how many states are waiting.
+fn open_node(opens: &mut [u16; 2048], begins: &mut [u16; 2048], d: usize, symbol: u16, w: usize)
+    requires { ⌜ (d < 2048) × (w ≤ 2048) ⌝ }
+    ensures { λ r. ⌜ (now (opens .exit) ≡ set (now (opens .entry)) d symbol) × (now (begins .exit) ≡ set (now (begins .entry)) d w) ⌝ }
+{
+    opens[d] = symbol;
+    begins[d] = w as u16;
+}
+
+// Stores the state and the value of a closed node in place of its children's, which stand from b on.
+fn put_node(waiting: &mut [u16; 2048], values: &mut [u64; 2048], b: usize, q: u16, v: u64)
+    requires { ⌜ b < 2048 ⌝ }
+    ensures { λ r. ⌜ (now (waiting .exit) ≡ set (now (waiting .entry)) b q) × (now (values .exit) ≡ set (now (values .entry)) b v) ⌝ }
+{
+    waiting[b] = q;
+    values[b] = v;
 }
 
 // The number of a tree, entry by entry: an entry opens a node, or closes one whose children's states and values are waiting.
@@ -100,10 +119,13 @@ fn number_tree(
 ) -> Answer
     requires { ⌜ RankReady (now rows) (now accepting) (now offsets) (now heads) (now next) (now counts) (now sums) n ⌝ }
     requires { ⌜ WellFormed (now tree) × (length (now tree) ≤ 4096) ⌝ }
-    ensures { λ r. ⌜ outcome r ≡ machine (now (rows .entry)) n (now (accepting .entry)) (now (counts .entry)) (now (sums .entry)) (now (tree .entry)) ⌝ }
+    ensures { λ r. ⌜ outcome r ≡ machine (now (rows .entry)) n (now (accepting .entry))
+        (now (counts .entry)) (now (sums .entry)) (now (tree .entry)) ⌝ }
 {
+    // of each open node: its symbol, and how many states were waiting when it was opened
     let mut opens = [0u16; 2048];
     let mut begins = [0u16; 2048];
+    // the first w: the states and the values of closed nodes that wait for their parent's bar
     let mut waiting = [0u16; 2048];
     let mut values = [0u64; 2048];
     let mut w: usize = 0;
@@ -112,9 +134,7 @@ fn number_tree(
     while i < tree.len() {
         match s.entry(tree[i]) {
             Step::Opens(t) => {
-                let d = t.depth - 1;
-                opens[d] = tree[i];
-                begins[d] = w as u16;
+                open_node(&mut opens, &mut begins, t.depth - 1, tree[i], w);
                 s = t;
                 i += 1;
             }
@@ -134,20 +154,19 @@ fn number_tree(
                     &values[b..w],
                 ) {
                     Node::Reaches(q, v) => {
-                        waiting[b] = q;
-                        values[b] = v;
+                        put_node(&mut waiting, &mut values, b, q, v);
                         w = b + 1;
                         s = t;
                         i += 1;
                     }
                     Node::Stuck => {
-                        return Answer::Refused(refuse(Kind::NotAccepted, i as u64));
+                        return refused_answer(Kind::NotAccepted, i as u64);
                     }
                 }
             }
             // not reached: no entry of a tree is refused
-            Step::Refuses => {
-                return Answer::Refused(refuse(Kind::NotATree, i as u64));
+            Step::Refuses(r) => {
+                return Answer::Refused(r);
             }
         }
     }

@@ -15,7 +15,7 @@ pub enum RowStep {
     Faulty(Kind),
 }
 
-// All rows were passed, so many; or so many were passed before a faulty one.
+// How many rows there are, where all pass; or how many pass before a faulty one, and the ground on which it is faulty.
 pub enum Walked {
     Passed(usize),
     Stopped(usize, Kind),
@@ -57,7 +57,7 @@ fn is_cut(rows: &[u16], at: usize) -> bool
     left - 3 < wide(rows[at + 2])
 }
 
-// Whether row i with n arguments is one too many or has too many: 3.
+// Whether row i is beyond the 1,024th, or its n arguments are more than 16: 3.
 fn is_too_many(i: usize, n: usize) -> bool
     ensures { λ r. ⌜ r ≡ tooMany i n ⌝ }
 {
@@ -93,7 +93,7 @@ fn is_not_below(rows: &[u16], at: usize, args: &[u16]) -> bool
     !all_below(args, wider(rows[at + 1]))
 }
 
-// Row i, which begins at `at`, by the grounds 2 to 5.
+// Tests row i, which begins at `at`, by the grounds 2 to 5.
 fn step_row(states: u64, rows: &[u16], i: usize, at: usize) -> RowStep
     requires { ⌜ at < length (now rows) ⌝ }
     ensures { λ r. ⌜ r ≡ rowStep states (now (rows .entry)) i at ⌝ }

@@ -41,7 +41,7 @@ fn faulty_entry(states: u64, accepting: &[u16]) -> Found
     Found::Nothing
 }
 
-// The rows in turn by the grounds 2 to 6: how many there are, with their offsets and their index; or the first faulty one.
+// Tests the rows in turn by the grounds 2 to 6, and stores their offsets and their index. Gives how many there are, or the first faulty one.
 fn check_rows(
     states: u64,
     rows: &[u16],
@@ -60,7 +60,7 @@ fn check_rows(
     }
 }
 
-// The check from the states on, for rows and an accepting list that are without fault.
+// The rest of the check, from the states on, where the rows and the accepting list are without fault.
 fn check_states(
     states: usize,
     rows: &[u16],
@@ -73,8 +73,10 @@ fn check_states(
     longest: &mut [u64; 256],
     sums: &mut [u64; 1024],
 ) -> Checked
-    requires { ⌜ StatesReady states (now rows) (now accepting) n (now offsets) (now first) (now after) (now counts) (now longest) (now sums) ⌝ }
-    ensures { λ r. ⌜ StatesAnswer states (now (rows .entry)) (now (accepting .entry)) n (now (first .exit)) (now (after .exit)) (now (counts .exit)) (now (longest .exit)) (now (sums .exit)) r ⌝ }
+    requires { ⌜ StatesReady states (now rows) (now accepting) n (now offsets)
+        (now first) (now after) (now counts) (now longest) (now sums) ⌝ }
+    ensures { λ r. ⌜ StatesAnswer states (now (rows .entry)) (now (accepting .entry)) n
+        (now (first .exit)) (now (after .exit)) (now (counts .exit)) (now (longest .exit)) (now (sums .exit)) r ⌝ }
 {
     counts::chain_rows(rows, offsets, n, first, after);
     match counts::count_states(
@@ -113,7 +115,9 @@ pub fn check_into(
     sums: &mut [u64; 1024],
 ) -> Checked
     requires { ⌜ Blank (now offsets) (now heads) (now next) (now first) (now after) (now counts) (now longest) (now sums) ⌝ }
-    ensures { λ r. ⌜ CheckAnswer states (now (rows .entry)) (now (accepting .entry)) (now (offsets .exit)) (now (heads .exit)) (now (next .exit)) (now (first .exit)) (now (after .exit)) (now (counts .exit)) (now (longest .exit)) (now (sums .exit)) r ⌝ }
+    ensures { λ r. ⌜ CheckAnswer states (now (rows .entry)) (now (accepting .entry))
+        (now (offsets .exit)) (now (heads .exit)) (now (next .exit)) (now (first .exit)) (now (after .exit))
+        (now (counts .exit)) (now (longest .exit)) (now (sums .exit)) r ⌝ }
 {
     if 256 < states {
         return Checked::Refuses(refuse(Kind::TooManyStates, 0));

@@ -7,17 +7,16 @@ use native.Mathlib.Omega.{arith}
 use native.Mathlib.Numerals.{add-one}
 use lib.ListN.{length, getD, take}
 use lib.Seq.{take-suc, take-all}
-use mathlib.Core.Logic.{_⊎_, inl, inr}
 use lib.Dec.{eqb, ltb}
-use borrow.Author.Tests.{lt-ltb, le-ltb, eq-eqb, ne-eqb, ltb-true, ltb-false}
+use borrow.Author.Tests.{lt-ltb, le-ltb}
 use Rattle.model.specs.Answers.{Outcome, result, refused, refusedBy}
 use Rattle.model.specs.Choice.{if_then_else_}
 use Rattle.model.specs.Tree.{WellFormed}
 use Rattle.model.specs.Entries.{openAfter, openAt, entryGround, endsTooSoon, formThen, treeThen}
-use Rattle.model.proofs.Choice.{no-fault, fault-refused, none-more, or-left, or-right}
+use Rattle.model.proofs.Choice.{no-fault, fault-refused, none-more}
 use Rattle.model.proofs.Entries.{open-append, tree-then-back}
 use Rattle.model.specs.declared.Refusal.{Refusal}
-use Rattle.tree.specs.Reading.{fresh, stepOf, Decides}
+use Rattle.tree.specs.Reading.{fresh, notATree, stepOf, endOf, formCheckThen, Decides}
 use Rattle.tree.specs.declared.Reading.{Reading}
 use Rattle.tree.specs.declared.Step.the-variants.{Opens, Closes, Refuses}
 use Rattle.tree.specs.declared.Form.{Form}
@@ -29,34 +28,39 @@ pub record Read (tree : List ℕ) (s : Reading) (i : ℕ) : Type 0 where
   pub within : i ≤ length tree
   pub depth-is : s .depth ≡ openAt tree i
   pub shallow : s .depth ≤ i
-  pub begun-is : s .begun ≡ ltb 0 i
+  pub place-is : s .place ≡ i
   pub sound : (j : ℕ) → j < i → entryGround tree j ≡ 0
 
 -- the three grounds of 13, together
-abbrev refusing : (depth e : ℕ) (begun : Bool) → Bool
-refusing depth e begun = ltb 255 e || (eqb e 0 && eqb depth 0) || (begun && eqb depth 0)
+abbrev pub refusing : Reading → ℕ → Bool
+refusing s e = ltb 255 e || (eqb e 0 && eqb (s .depth) 0) || (ltb 0 (s .place) && eqb (s .depth) 0)
 
 -- what a step is, by its tests
-pub step-is : (s : Reading) (e : ℕ) (h z y b : Bool) → ltb 255 e ≡ h → eqb e 0 ≡ z → eqb (s .depth) 0 ≡ y → s .begun ≡ b
-    → stepOf s e ≡ (if h || (z && y) || (b && y) then Refuses else if z then Closes (record { depth = s .depth - 1; begun = true }) else Opens (record { depth = s .depth + 1; begun = true }))
+pub step-is : (s : Reading) (e : ℕ) (h z y b : Bool) → ltb 255 e ≡ h → eqb e 0 ≡ z → eqb (s .depth) 0 ≡ y → ltb 0 (s .place) ≡ b
+    → stepOf s e ≡ (if h || (z && y) || (b && y) then Refuses (notATree (s .place)) else if z then Closes (record { depth = s .depth - 1; place = s .place + 1 }) else Opens (record { depth = s .depth + 1; place = s .place + 1 }))
 unfolding stepOf
 step-is s e h z y b p q r t = rw (p, q, r, t)
 
+-- what the end is, by its tests
+pub end-is : (s : Reading) (z d : Bool) → eqb (s .place) 0 ≡ z → ltb 0 (s .depth) ≡ d → endOf s ≡ (if z || d then RefusesList (notATree (s .place)) else Tree)
+unfolding endOf
+end-is s z d p q = rw (p, q)
+
 -- how a step comes about
-pub opens-by : (t z : Bool) (x y n : Reading) → (if t then Refuses else if z then Closes x else Opens y) ≡ Opens n → (t ≡ false) × (z ≡ false) × (n ≡ y)
-opens-by true z x y n e = let w : _≡_ {A = ℕ} 0 1 = cc in absurd (omega arith)
-opens-by false true x y n e = let w : _≡_ {A = ℕ} 0 1 = cc in absurd (omega arith)
-opens-by false false x y n e = (refl, refl, cc)
+pub opens-by : (t z : Bool) (f : Refusal) (x y n : Reading) → (if t then Refuses f else if z then Closes x else Opens y) ≡ Opens n → (t ≡ false) × (z ≡ false) × (n ≡ y)
+opens-by true z f x y n e = let w : _≡_ {A = ℕ} 0 1 = cc in absurd (omega arith)
+opens-by false true f x y n e = let w : _≡_ {A = ℕ} 0 1 = cc in absurd (omega arith)
+opens-by false false f x y n e = (refl, refl, cc)
 
-pub closes-by : (t z : Bool) (x y n : Reading) → (if t then Refuses else if z then Closes x else Opens y) ≡ Closes n → (t ≡ false) × (z ≡ true) × (n ≡ x)
-closes-by true z x y n e = let w : _≡_ {A = ℕ} 0 1 = cc in absurd (omega arith)
-closes-by false true x y n e = (refl, refl, cc)
-closes-by false false x y n e = let w : _≡_ {A = ℕ} 0 1 = cc in absurd (omega arith)
+pub closes-by : (t z : Bool) (f : Refusal) (x y n : Reading) → (if t then Refuses f else if z then Closes x else Opens y) ≡ Closes n → (t ≡ false) × (z ≡ true) × (n ≡ x)
+closes-by true z f x y n e = let w : _≡_ {A = ℕ} 0 1 = cc in absurd (omega arith)
+closes-by false true f x y n e = (refl, refl, cc)
+closes-by false false f x y n e = let w : _≡_ {A = ℕ} 0 1 = cc in absurd (omega arith)
 
-refuses-by : (t z : Bool) (x y : Reading) → (if t then Refuses else if z then Closes x else Opens y) ≡ Refuses → t ≡ true
-refuses-by true z x y e = refl
-refuses-by false true x y e = let w : _≡_ {A = ℕ} 0 1 = cc in absurd (omega arith)
-refuses-by false false x y e = let w : _≡_ {A = ℕ} 0 1 = cc in absurd (omega arith)
+refuses-by : (t z : Bool) (f : Refusal) (x y : Reading) (g : Refusal) → (if t then Refuses f else if z then Closes x else Opens y) ≡ Refuses g → (t ≡ true) × (g ≡ f)
+refuses-by true z f x y g e = (refl, cc)
+refuses-by false true f x y g e = let w : _≡_ {A = ℕ} 0 1 = cc in absurd (omega arith)
+refuses-by false false f x y g e = let w : _≡_ {A = ℕ} 0 1 = cc in absurd (omega arith)
 
 -- nodes open after one entry more
 open-next : (tree : List ℕ) (i : ℕ) → i < length tree → openAt tree (i + 1) ≡ (if eqb (getD tree i 0) 0 then openAt tree i - 1 else suc (openAt tree i))
@@ -64,20 +68,23 @@ unfolding openAfter
 open-next tree i l = rw (add-one i, take-suc tree i 0 l) (open-append 0 (take i tree) (getD tree i 0 ∷ []))
 
 module _ {tree : List ℕ} {s : Reading} {i : ℕ} (r : Read tree s i) (l : i < length tree) where
+  pub reads-on : (s .depth ≤ s .place) × (s .place < 4096)
+  reads-on = (omega (arith, r .shallow, r .place-is), omega (arith, r .few, r .place-is))
+
   -- 13 holds of the entry just where it is refused
-  ground-is : entryGround tree i ≡ (if refusing (s .depth) (getD tree i 0) (s .begun) then 13 else 0)
+  ground-is : entryGround tree i ≡ (if refusing s (getD tree i 0) then 13 else 0)
   unfolding entryGround
-  ground-is = rw (r .depth-is, r .begun-is)
+  ground-is = rw (r .depth-is, r .place-is)
 
   -- an entry that is not refused is read
-  went : (n : Reading) (z : Bool) → refusing (s .depth) (getD tree i 0) (s .begun) ≡ false → eqb (getD tree i 0) 0 ≡ z
-      → n .depth ≡ (if z then s .depth - 1 else s .depth + 1) → n .begun ≡ true → Read tree n (i + 1)
+  went : (n : Reading) (z : Bool) → refusing s (getD tree i 0) ≡ false → eqb (getD tree i 0) 0 ≡ z
+      → n .depth ≡ (if z then s .depth - 1 else s .depth + 1) → n .place ≡ s .place + 1 → Read tree n (i + 1)
   went n z t e d b = record {
     few = r .few;
     within = omega arith;
     depth-is = d ∙ deep z (r .depth-is) ∙ sym (rw e at (open-next tree i l));
     shallow = rw d (low z);
-    begun-is = b ∙ sym (lt-ltb 0 (i + 1) (omega arith));
+    place-is = b ∙ ap (λ (x : ℕ). x + 1) (r .place-is);
     sound = none-more i (entryGround tree) (r .sound) (rw t at ground-is);
   }
     where
@@ -92,28 +99,28 @@ module _ {tree : List ℕ} {s : Reading} {i : ℕ} (r : Read tree s i) (l : i < 
   pub opened : (n : Reading) → stepOf s (getD tree i 0) ≡ Opens n → Read tree n (i + 1)
   unfolding stepOf
   opened n e =
-      let t = opens-by (refusing (s .depth) (getD tree i 0) (s .begun)) (eqb (getD tree i 0) 0) _ _ n e in
-      went n false (t .0) (t .1) (ap (λ (x : Reading). x .depth) (t .2)) (ap (λ (x : Reading). x .begun) (t .2))
+      let t = opens-by (refusing s (getD tree i 0)) (eqb (getD tree i 0) 0) _ _ _ n e in
+      went n false (t .0) (t .1) (ap (λ (x : Reading). x .depth) (t .2)) (ap (λ (x : Reading). x .place) (t .2))
 
   pub shut : (n : Reading) → stepOf s (getD tree i 0) ≡ Closes n → Read tree n (i + 1)
   unfolding stepOf
   shut n e =
-      let t = closes-by (refusing (s .depth) (getD tree i 0) (s .begun)) (eqb (getD tree i 0) 0) _ _ n e in
-      went n true (t .0) (t .1) (ap (λ (x : Reading). x .depth) (t .2)) (ap (λ (x : Reading). x .begun) (t .2))
+      let t = closes-by (refusing s (getD tree i 0)) (eqb (getD tree i 0) 0) _ _ _ n e in
+      went n true (t .0) (t .1) (ap (λ (x : Reading). x .depth) (t .2)) (ap (λ (x : Reading). x .place) (t .2))
 
   -- the entry is refused: it is the place of 13
-  pub refused-here : stepOf s (getD tree i 0) ≡ Refuses → (o : Outcome) → refused 13 i ≡ treeThen tree o
+  pub refused-here : (f : Refusal) → stepOf s (getD tree i 0) ≡ Refuses f → (o : Outcome) → refusedBy f ≡ treeThen tree o
   unfolding stepOf treeThen formThen
-  refused-here e o =
-      let t = refuses-by (refusing (s .depth) (getD tree i 0) (s .begun)) (eqb (getD tree i 0) 0) _ _ e in
-      let g : entryGround tree i ≡ 13 = rw t at ground-is in
+  refused-here f e o =
+      let t = refuses-by (refusing s (getD tree i 0)) (eqb (getD tree i 0) 0) _ _ _ f e in
+      let g : entryGround tree i ≡ 13 = rw (t .0) at ground-is in
       let long : ltb 4096 (length tree) ≡ false = le-ltb 4096 (length tree) (r .few) in
-      rw long (fault-refused (length tree) i 13 (entryGround tree) _ l (r .sound) g (omega arith))
+      ap refusedBy (t .1) ∙ ap (refused 13) (r .place-is) ∙ rw long (fault-refused (length tree) i 13 (entryGround tree) _ l (r .sound) g (omega arith))
 
 -- before the first entry
 pub begins : (tree : List ℕ) (s : Reading) → length tree ≤ 4096 → s ≡ fresh → Read tree s 0
 unfolding openAfter
-begins tree s l e = rw e (record { few = l; within = omega arith; depth-is = refl; shallow = omega arith; begun-is = refl; sound = λ j m. absurd (omega arith) })
+begins tree s l e = rw e (record { few = l; within = omega arith; depth-is = refl; shallow = omega arith; place-is = refl; sound = λ j m. absurd (omega arith) })
 
 -- all entries are read: the root is closed, or the list ends too soon
 module _ {tree : List ℕ} {s : Reading} {i : ℕ} (r : Read tree s i) (ge : length tree ≤ i) where
@@ -130,21 +137,19 @@ module _ {tree : List ℕ} {s : Reading} {i : ℕ} (r : Read tree s i) (ge : len
       let all : (j : ℕ) → j < length tree → entryGround tree j ≡ 0 = λ j m. r .sound j (omega (arith, full)) in
       rw long (no-fault (length tree) (entryGround tree) (if endsTooSoon tree then refused 13 (length tree) else o) all)
 
-  pub is-tree : s .begun ≡ true → s .depth ≡ 0 → (o : Outcome) → o ≡ treeThen tree o
-  unfolding endsTooSoon
-  is-tree b d o =
-      let some = ltb-true 0 i (sym (r .begun-is) ∙ b) in
-      let none : eqb (length tree) 0 ≡ false = ne-eqb (length tree) 0 (λ z. omega (arith, full)) in
-      let low : ltb 0 (openAfter 0 tree) ≡ false = le-ltb 0 (openAfter 0 tree) (omega (arith, depth-end, d)) in
-      sym (rw (none, low) at (after o))
+  place-end : s .place ≡ length tree
+  place-end = r .place-is ∙ full
 
-  pub too-soon : (s .begun ≡ false) ⊎ (0 < s .depth) → (o : Outcome) → refused 13 i ≡ treeThen tree o
-  unfolding endsTooSoon
-  too-soon c o = rw full (sym (after o ∙ ap (λ (b : Bool). if b then refused 13 (length tree) else o) (ends c)))
+  -- so the answer after the last entry decides 12 and 13
+  pub ended : (f : Form) → f ≡ endOf s → Decides tree f
+  unfolding endOf endsTooSoon
+  ended f e = record {
+    decided = λ o. ap (λ (g : Form). formCheckThen g o) e ∙ told (eqb (s .place) 0 || ltb 0 (s .depth)) o ∙ rw (place-end, depth-end) (sym (after o));
+  }
     where
-      ends : (s .begun ≡ false) ⊎ (0 < s .depth) → (eqb (length tree) 0 || ltb 0 (openAfter 0 tree)) ≡ true
-      ends (inl b) = or-left (eqb (length tree) 0) (ltb 0 (openAfter 0 tree)) (eq-eqb (length tree) 0 (omega (arith, full, ltb-false 0 i (sym (r .begun-is) ∙ b))))
-      ends (inr p) = or-right (eqb (length tree) 0) (ltb 0 (openAfter 0 tree)) (lt-ltb 0 (openAfter 0 tree) (omega (arith, depth-end)))
+      told : (b : Bool) (o : Outcome) → formCheckThen (if b then RefusesList (notATree (s .place)) else Tree) o ≡ (if b then refused 13 (s .place) else o)
+      told true o = refl
+      told false o = refl
 
 -- more than 4,096 entries
 pub too-long : (tree : List ℕ) → 4096 < length tree → (o : Outcome) → refused 12 0 ≡ treeThen tree o

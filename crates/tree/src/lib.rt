@@ -3,20 +3,20 @@ use model::Kind;
 use model::Refusal;
 use model::refuse;
 ghost use mathlib.Core.Path.{_≡_};
-ghost use Prim.Native.Nat.{_<_};
-ghost use Rattle.tree.specs.Reading.{fresh, stepOf, Decides};
+ghost use Prim.Native.Nat.{_<_, _≤_};
+ghost use Rattle.tree.specs.Reading.{fresh, notATree, stepOf, endOf, Decides};
 
-// How many nodes are open, and whether the root has been opened.
+// How many nodes are open, and how many entries were read: the place of the next one.
 pub struct Reading {
     pub depth: usize,
-    pub begun: bool,
+    pub place: usize,
 }
 
 // The entry opens a node, closes one, or is refused.
 pub enum Step {
     Opens(Reading),
     Closes(Reading),
-    Refuses,
+    Refuses(Refusal),
 }
 
 // The list is a tree, or is refused by 12 or 13.
@@ -25,47 +25,68 @@ pub enum Form {
     Refuses(Refusal),
 }
 
+// Refusal 13 at a place.
+fn not_a_tree(place: usize) -> Refusal
+    ensures { λ r. ⌜ r ≡ notATree place ⌝ }
+{
+    Refusal {
+        place: place as u64,
+        kind: Kind::NotATree,
+    }
+}
+
 impl Reading {
     pub fn new() -> Self
         ensures { λ r. ⌜ r ≡ fresh ⌝ }
     {
-        Reading {
-            depth: 0,
-            begun: false,
-        }
+        Reading { depth: 0, place: 0 }
     }
 
     // Reads one entry.
     pub fn entry(self, e: u16) -> Step
-        requires { ⌜ self .depth < 4096 ⌝ }
+        requires { ⌜ (self .depth ≤ self .place) × (self .place < 4096) ⌝ }
         ensures { λ r. ⌜ r ≡ stepOf self e ⌝ }
     {
         let depth = self.depth;
+        let place = self.place;
         if 255 < e {
-            return Step::Refuses;
+            return Step::Refuses(not_a_tree(place));
         }
         if depth == 0 {
-            if self.begun {
-                return Step::Refuses;
+            // the root's bar was read
+            if 0 < place {
+                return Step::Refuses(not_a_tree(place));
             }
             if e == 0 {
-                return Step::Refuses;
+                return Step::Refuses(not_a_tree(place));
             }
-            return Step::Opens(Reading {
-                depth: 1,
-                begun: true,
-            });
+            return Step::Opens(Reading { depth: 1, place: 1 });
         }
         if e == 0 {
             return Step::Closes(Reading {
                 depth: depth - 1,
-                begun: true,
+                place: place + 1,
             });
         }
         Step::Opens(Reading {
             depth: depth + 1,
-            begun: true,
+            place: place + 1,
         })
+    }
+
+    // After the last entry: the list is a tree, or ends too soon.
+    pub fn end(self) -> Form
+        ensures { λ r. ⌜ r ≡ endOf self ⌝ }
+    {
+        let depth = self.depth;
+        let place = self.place;
+        if place == 0 {
+            return Form::Refuses(not_a_tree(place));
+        }
+        if 0 < depth {
+            return Form::Refuses(not_a_tree(place));
+        }
+        Form::Tree
     }
 }
 
@@ -88,15 +109,10 @@ pub fn check_tree(tree: &[u16]) -> Form
                 s = n;
                 i += 1;
             }
-            Step::Refuses => {
-                return Form::Refuses(refuse(Kind::NotATree, i as u64));
+            Step::Refuses(r) => {
+                return Form::Refuses(r);
             }
         }
     }
-    if s.begun {
-        if s.depth == 0 {
-            return Form::Tree;
-        }
-    }
-    Form::Refuses(refuse(Kind::NotATree, i as u64))
+    s.end()
 }

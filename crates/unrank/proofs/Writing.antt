@@ -104,7 +104,7 @@ module _ {rows offsets first after counts sums : List ℕ} {q value : ℕ} (x : 
       pub bar-fits : at < length new
       bar-fits = last-fits bar-left
 
-      -- the first entry was written before, and is not among those behind
+      -- the first entry was written before the children: the entries after the tree are still those of the list as lent
       pub tree-ends : (out : List ℕ) (s : ℕ) → old ≡ set out 0 s → Wrote rows counts q value out (set new at 0) (at + 1)
       tree-ends out s z = record {
         many = last-place bar-left;

@@ -2,7 +2,7 @@
 use chains::wide;
 use model::Answer;
 use model::Kind;
-use model::refuse;
+use model::refused_answer;
 use table::Checked;
 ghost use mathlib.Core.Path.{_≡_};
 ghost use Prim.Native.Nat.{_≤_};
@@ -11,7 +11,7 @@ ghost use Rattle.unrank.specs.UnrankReady.{ValueReady, NumberReady};
 ghost use Rattle.unrank.specs.Trees.{Opening, openedAt, Enters, Shared, childOf, valueEntries, Wrote, ListReady, spotOf};
 ghost use Rattle.unrank.specs.Written.{WroteNumber, WroteTree};
 
-// A row, entered with a value: its symbol, where it begins, what it counts, and what is left of the value in it.
+// The row in which a value falls: its symbol, where it begins, what it counts, and the value less what the state's earlier rows count.
 pub struct Entered {
     pub symbol: u16,
     pub at: usize,
@@ -19,7 +19,7 @@ pub struct Entered {
     pub rest: u64,
 }
 
-// A child: its state and value; what the children after it count together, and what is left for them.
+// A child: its state and its value; the product of the counts of the children after it, and what is left of the value for them.
 pub struct Child {
     pub state: usize,
     pub value: u64,
@@ -33,7 +33,7 @@ pub struct Spot {
     pub value: u64,
 }
 
-// Row r, entered with a value; the values in it are below `end`.
+// Row r as the row in which the value falls; `end` is the first value beyond the row.
 fn enter_row(
     rows: &[u16],
     offsets: &[u16; 1024],
@@ -81,7 +81,7 @@ fn find_row(
     enter_row(rows, offsets, sums, r, counts[q], value)
 }
 
-// Child k of a row, where the children from it on count w together and h is left for them.
+// Child k of a row, where w is the product of the counts of the children from k on, and h is what is left of the value for them.
 fn child_at(args: &[u16], counts: &[u64; 256], k: usize, w: u64, h: u64) -> Child
     requires { ⌜ Shared (now args) (now counts) k w ⌝ }
     ensures { λ c. ⌜ c ≡ childOf (now (args .entry)) (now (counts .entry)) k w h ⌝ }
@@ -213,14 +213,15 @@ fn write_number(
     tree: &mut [u16],
 ) -> Answer
     requires { ⌜ NumberReady (now rows) (now accepting) (now offsets) (now first) (now after) (now counts) (now sums) number ⌝ }
-    ensures { λ r. ⌜ WroteNumber (now (rows .entry)) (now (accepting .entry)) (now (counts .entry)) number (now (tree .entry)) (now (tree .exit)) r ⌝ }
+    ensures { λ r. ⌜ WroteNumber (now (rows .entry)) (now (accepting .entry)) (now (counts .entry)) number
+        (now (tree .entry)) (now (tree .exit)) r ⌝ }
 {
     let spot = find_state(accepting, counts, number);
     let q = spot.state;
     let value = spot.value;
     let needed = tree_length(rows, offsets, first, after, counts, sums, q, value);
     if tree.len() < needed {
-        return Answer::Refused(refuse(Kind::ShortTreeList, needed as u64));
+        return refused_answer(Kind::ShortTreeList, needed as u64);
     }
     write_tree(rows, offsets, first, after, counts, sums, q, value, tree);
     Answer::Result(needed as u64)
@@ -253,7 +254,7 @@ pub fn write(states: u64, rows: &[u16], accepting: &[u16], number: u64, tree: &m
     ) {
         Checked::Sound(total, _) => {
             if total <= number {
-                return Answer::Refused(refuse(Kind::NumberNotBelowTotal, 0));
+                return refused_answer(Kind::NumberNotBelowTotal, 0);
             }
             write_number(
                 rows,

@@ -39,7 +39,7 @@ loop-again : tie.Need-loop-again Inv-loop μ-loop
 loop-again c = sum-goes (c .before .before .before .before .before .before .loop .inv) (c .before .before .before .before .before .loop-test .taken) _ (c .before .wide .ensures) (c .before .before .before .if1 .left)
 
 returns-2 : tie.Need-returns-2 Inv-loop μ-loop
-returns-2 c = c .refuse .ensures ∙ not-listed (c .before .before .loop .inv) (c .before .loop-test .left) _ _
+returns-2 c = c .refused-answer .ensures ∙ not-listed (c .before .before .loop .inv) (c .before .loop-test .left) _ _
 
 pub number-in-spec : {M : Type 1} → statement M
 number-in-spec =

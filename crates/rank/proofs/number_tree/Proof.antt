@@ -4,6 +4,7 @@ use mathlib.Core.Path.{_≡_, refl, sym, _∙_}
 use lib.ListN.{length, getD, length-replicate}
 use Rattle.tree.specs.Reading.{stepOf}
 use Rattle.tree.specs.declared.Step.the-variants.{Opens, Closes}
+use Rattle.tree.proofs.Laws.{reads-on}
 use Rattle.rank.proofs.Running.{Running, running-begins, few-wait, open-room, node-opens, close-depth, close-under, close-room, close-fits, node-sticks, node-closes, not-refused, some-read, end-sums, tree-ends}
 use Rattle.rank.proofs.number_tree.Statement.{statement}
 use borrow.Author.Needs.{needs}
@@ -40,28 +41,16 @@ loop-holds : tie.Need-loop-holds Inv-loop μ-loop
 loop-holds c = running-begins _ _ _ _ _ _ _ _ _ _ _ (c .before .before .before .before .pre .1 .1) (c .new .ensures) (length-replicate {A = ℕ} 2048 0) (length-replicate {A = ℕ} 2048 0) (length-replicate {A = ℕ} 2048 0) (length-replicate {A = ℕ} 2048 0)
 
 entry-requires : tie.Need-entry-requires Inv-loop μ-loop
-entry-requires c κs = omega (arith, c .before .before .loop .inv .deep)
+entry-requires c κs = reads-on (c .before .before .loop .inv .reads) (c .before .loop-test .taken)
 
-sub-d : tie.Need-sub-d Inv-loop μ-loop
-sub-d c = opens-room (c .before) .1
+sub-open-node : tie.Need-sub-open-node Inv-loop μ-loop
+sub-open-node c = opens-room (c .before .before .before) .1
 
-mul-opens-2 : tie.Need-mul-opens-2 Inv-loop μ-loop
-mul-opens-2 c = omega (arith, opens-room (c .before .before))
-
-array-write-opens : tie.Need-array-write-opens Inv-loop μ-loop
-array-write-opens c = opens-room (c .before .before) .0
-
-cast-begins : tie.Need-cast-begins Inv-loop μ-loop
-cast-begins c = omega (arith, few-wait (c .before .before .before .before .before .before .before .before .loop .inv))
-
-mul-begins : tie.Need-mul-begins Inv-loop μ-loop
-mul-begins c = omega (arith, opens-room (c .before .before))
-
-array-write-begins : tie.Need-array-write-begins Inv-loop μ-loop
-array-write-begins c = opens-room (c .before .before) .0
+open-node-requires : tie.Need-open-node-requires Inv-loop μ-loop
+open-node-requires c κs = (opens-room (c .before .before .before .before) .0, few-wait (c .before .before .before .before .before .before .before .before .before .before .loop .inv))
 
 loop-again : tie.Need-loop-again Inv-loop μ-loop
-loop-again c = node-opens (c .before .before .before .before .before .before .before .before .loop .inv) (c .before .before .before .before .before .before .before .loop-test .taken) _ (opens-step (c .before .before)) (c .before .before .before .before .before .before .before .before .before .before .before .before .before .pre .1 .0)
+loop-again c = node-opens (c .before .before .before .before .before .before .before .before .before .before .before .loop .inv) (c .before .before .before .before .before .before .before .before .before .before .loop-test .taken) _ (opens-step (c .before .before .before .before .before)) (c .before .before .before .before .before .before .before .before .before .before .before .before .before .before .before .before .pre .1 .0) _ _ (c .open-node .ensures)
 
 mul-wide : tie.Need-mul-wide Inv-loop μ-loop
 mul-wide c = omega (arith, closes-room c)
@@ -102,29 +91,20 @@ part-close-end-2 c = omega (arith, room (c .before .before .before), c .before .
 close-requires : tie.Need-close-requires Inv-loop μ-loop
 close-requires c κs = (c .before .before .before .before .before .before .before .before .before .before .before .before .before .before .before .before .pre .0 .laid, (c .before .before .before .before .before .before .before .before .before .before .before .before .before .before .before .before .pre .0 .index, close-fits (c .before .before .before .before .before .before .before .before .before .before .before .loop .inv) (c .before .before .before .before .before .before .before .before .before .before .loop-test .taken) _ (closes-step (c .before .before .before .before .before)) _ (c .before .before .before .before .wide .ensures) (c .before .before .before .before .before .before .before .before .before .before .before .before .before .before .before .before .pre .0)))
 
-mul-waiting : tie.Need-mul-waiting Inv-loop μ-loop
-mul-waiting c = omega (arith, room (c .before .before .before .before .before .before .before .before))
-
-array-write-waiting : tie.Need-array-write-waiting Inv-loop μ-loop
-array-write-waiting c = room (c .before .before .before .before .before .before .before .before) .1
-
-mul-values : tie.Need-mul-values Inv-loop μ-loop
-mul-values c = omega (arith, room (c .before .before .before .before .before .before .before .before))
-
-array-write-values : tie.Need-array-write-values Inv-loop μ-loop
-array-write-values c = room (c .before .before .before .before .before .before .before .before) .1
+put-node-requires : tie.Need-put-node-requires Inv-loop μ-loop
+put-node-requires c κs = room (c .before .before .before .before .before .before .before .before .before .before) .1
 
 add-w : tie.Need-add-w Inv-loop μ-loop
-add-w c = omega (arith, room (c .before .before .before .before .before .before .before .before))
+add-w c = omega (arith, room (c .before .before .before .before .before .before .before .before .before .before .before))
 
 loop-again-2 : tie.Need-loop-again-2 Inv-loop μ-loop
-loop-again-2 c = node-closes (c .before .before .before .before .before .before .before .before .before .before .before .before .before .before .before .loop .inv) (c .before .before .before .before .before .before .before .before .before .before .before .before .before .before .loop-test .taken) _ (closes-step (c .before .before .before .before .before .before .before .before .before)) _ (c .before .before .before .before .before .before .before .before .wide .ensures) (c .before .before .before .before .before .before .before .before .before .before .before .before .before .before .before .before .before .before .before .before .pre .0) _ _ (sym (c .before .before .before .close .ensures) ∙ c .before .q .given .1)
+loop-again-2 c = node-closes (c .before .before .before .before .before .before .before .before .before .before .before .before .before .before .before .before .before .before .loop .inv) (c .before .before .before .before .before .before .before .before .before .before .before .before .before .before .before .before .before .loop-test .taken) _ (closes-step (c .before .before .before .before .before .before .before .before .before .before .before .before)) _ (c .before .before .before .before .before .before .before .before .before .before .before .wide .ensures) (c .before .before .before .before .before .before .before .before .before .before .before .before .before .before .before .before .before .before .before .before .before .before .before .pre .0) _ _ (sym (c .before .before .before .before .before .before .close .ensures) ∙ c .before .before .before .before .q .given .1) _ _ (c .put-node .ensures)
 
 returns : tie.Need-returns Inv-loop μ-loop
-returns c = c .refuse .ensures ∙ node-sticks (c .before .before .before .before .before .before .before .before .before .before .before .before .before .before .before .loop .inv) (c .before .before .before .before .before .before .before .before .before .before .before .before .before .before .loop-test .taken) _ (closes-step (c .before .before .before .before .before .before .before .before .before)) _ (c .before .before .before .before .before .before .before .before .wide .ensures) (sym (c .before .before .before .close .ensures) ∙ c .before .enum-told .given .1)
+returns c = c .refused-answer .ensures ∙ node-sticks (c .before .before .before .before .before .before .before .before .before .before .before .before .before .before .before .loop .inv) (c .before .before .before .before .before .before .before .before .before .before .before .before .before .before .loop-test .taken) _ (closes-step (c .before .before .before .before .before .before .before .before .before)) _ (c .before .before .before .before .before .before .before .before .wide .ensures) (sym (c .before .before .before .close .ensures) ∙ c .before .enum-told .given .1)
 
 returns-2 : tie.Need-returns-2 Inv-loop μ-loop
-returns-2 c = c .refuse2 .ensures ∙ not-refused (c .before .before .before .before .before .before .loop .inv) (c .before .before .before .before .before .loop-test .taken) (sym (c .before .before .before .entry .ensures) ∙ c .before .enum-told2 .given .1) (c .before .before .before .before .before .before .before .before .before .before .before .pre .1 .0)
+returns-2 c = not-refused (c .before .before .before .before .before .before .loop .inv) (c .before .before .before .before .before .loop-test .taken) _ (sym (c .before .before .before .entry .ensures) ∙ c .before .r .given .1) (c .before .before .before .before .before .before .before .before .before .before .before .pre .1 .0)
 
 sub-number-in : tie.Need-sub-number-in Inv-loop μ-loop
 sub-number-in c = some-read (c .before .loop .inv) (c .loop-test .left) (c .before .before .before .before .before .before .pre .1 .0)
@@ -147,14 +127,10 @@ number-tree-spec =
     (λ c. search needs)
     entry-requires
     (λ c. search needs)
-    sub-d
+    sub-open-node
     (λ c. search needs)
     (λ c. search needs)
-    mul-opens-2
-    array-write-opens
-    cast-begins
-    mul-begins
-    array-write-begins
+    open-node-requires
     (λ c. search needs)
     (λ c. search needs)
     loop-again
@@ -174,10 +150,7 @@ number-tree-spec =
     part-close-end-2
     close-requires
     (λ c. search needs)
-    mul-waiting
-    array-write-waiting
-    mul-values
-    array-write-values
+    put-node-requires
     add-w
     (λ c. search needs)
     (λ c. search needs)
@@ -186,7 +159,6 @@ number-tree-spec =
     (λ c κs. search needs)
     returns
     (λ c. search needs)
-    (λ c κs. search needs)
     returns-2
     (λ c. search needs)
     (λ c. search needs)

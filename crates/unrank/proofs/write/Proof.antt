@@ -9,7 +9,7 @@ check-into-requires : tie.Need-check-into-requires
 check-into-requires c κs = blank
 
 returns : tie.Need-returns
-returns c = write-above (c .before .before .before .before .before .check-into .ensures) _ _ _ _ (c .before .before .before .total .given .1) _ (c .before .if1 .taken) (c .refuse .ensures)
+returns c = write-above (c .before .before .before .before .before .check-into .ensures) _ _ _ _ (c .before .before .before .total .given .1) _ (c .before .if1 .taken) (c .refused-answer .ensures)
 
 write-number-requires : tie.Need-write-number-requires
 write-number-requires c κs = record { states = c .before .before .before .before .before .before .before .before .before .before .before .before .before .before .before .before .before .before .before .before .before .before .args .states; total = c .before .before .before .before .before .before .before .before .total .given .0 .0; ready = ready (c .before .before .before .before .before .before .before .before .before .before .check-into .ensures) _ _ (c .before .before .before .before .before .before .before .before .total .given .1); less = c .before .before .before .before .before .before .if1 .left }

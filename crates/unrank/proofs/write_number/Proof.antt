@@ -13,7 +13,7 @@ tree-length-requires : tie.Need-tree-length-requires
 tree-length-requires c κs = spot-valued (c .before .before .before .before .pre .ready) _ (c .before .before .before .before .pre .less) _ (c .find-state .ensures)
 
 returns : tie.Need-returns
-returns c = number-short _ _ _ _ _ (c .before .before .before .find-state .ensures) _ _ _ (c .before .before .tree-length .ensures) (c .before .if1 .taken) (c .refuse .ensures)
+returns c = number-short _ _ _ _ _ (c .before .before .before .find-state .ensures) _ _ _ (c .before .before .tree-length .ensures) (c .before .if1 .taken) (c .refused-answer .ensures)
 
 write-tree-requires : tie.Need-write-tree-requires
 write-tree-requires c κs = (spot-valued (c .before .before .before .before .before .before .before .pre .ready) _ (c .before .before .before .before .before .before .before .pre .less) _ (c .before .before .before .find-state .ensures), omega (arith, c .before .before .tree-length .ensures, c .before .if1 .left))
