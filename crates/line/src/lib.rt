@@ -47,10 +47,10 @@ pub fn empty_line() -> Line
 fn is_digit(b: u8) -> bool
     ensures { λ r. ⌜ r ≡ isDigit b ⌝ }
 {
-    if b < 48 {
+    if b < b'0' {
         return false;
     }
-    b <= 57
+    b <= b'9'
 }
 
 // Whether all bytes are digits, with one byte more.
@@ -71,7 +71,7 @@ fn with_digit(value: u64, b: u8) -> u64
         return BEYOND;
     }
     if is_digit(b) {
-        let next = value * 10 + (b - 48) as u64;
+        let next = value * 10 + (b - b'0') as u64;
         if next < BEYOND {
             return next;
         }
@@ -119,7 +119,7 @@ fn put_number(n: u64, out: &mut [u8]) -> usize
     requires { ⌜ longestLine ≤ length (now out) ⌝ }
     ensures { λ r. ⌜ Begins (now (out .exit)) (decimal n ++ 10 ∷ []) r ⌝ }
 {
-    put_decimal(n, 10, 0, out)
+    put_decimal(n, b'\n', 0, out)
 }
 
 // Puts the line of a refusal: its number and its place.
@@ -131,8 +131,8 @@ fn put_refusal(r: Refusal, out: &mut [u8]) -> usize
     let number = model::kind_number(kind) as u64;
     let place = r.place;
     let a = put_bytes(&mut *out, 0, b"refused ");
-    let b = put_decimal(number, 32, a, &mut *out);
-    put_decimal(place, 10, b, out)
+    let b = put_decimal(number, b' ', a, &mut *out);
+    put_decimal(place, b'\n', b, out)
 }
 
 // Puts the line of a tree: its term.
@@ -143,7 +143,7 @@ fn put_term(names: &[u8], tree: &[u16], out: &mut [u8]) -> usize
     match term::write_term(names, tree, &mut *out) {
         Answer::Result(count) => {
             let n = count as usize;
-            out[n] = 10;
+            out[n] = b'\n';
             n + 1
         }
         Answer::Refused(r) => put_refusal(r, out),
@@ -261,7 +261,7 @@ pub fn feed_line(
     let mut i = from;
     while i < bytes.len() {
         let b = bytes[i];
-        if b == 10 {
+        if b == b'\n' {
             let n = answer(states, rows, accepting, names, so_far, &*text, out);
             return Fed {
                 line: empty_line(),

@@ -18,16 +18,16 @@ pub enum NamesCheck {
 pub fn is_letter(b: u8) -> bool
     ensures { λ r. ⌜ r ≡ isLetter b ⌝ }
 {
-    if b < 65 {
+    if b < b'A' {
         return false;
     }
-    if b <= 90 {
+    if b <= b'Z' {
         return true;
     }
-    if b < 97 {
+    if b < b'a' {
         return false;
     }
-    b <= 122
+    b <= b'z'
 }
 
 pub fn is_name_byte(b: u8) -> bool
@@ -36,13 +36,13 @@ pub fn is_name_byte(b: u8) -> bool
     if is_letter(b) {
         return true;
     }
-    if b < 48 {
-        return b == 45;
+    if b < b'0' {
+        return b == b'-';
     }
-    if b <= 57 {
+    if b <= b'9' {
         return true;
     }
-    b == 95
+    b == b'_'
 }
 
 // Whether two names are equal.
@@ -87,7 +87,7 @@ fn name_end(names: &[u8], at: usize) -> Found
     if end == names.len() {
         return Found::Nothing;
     }
-    if names[end] != 10 {
+    if names[end] != b'\n' {
         return Found::Nothing;
     }
     if 24 < end - at {

@@ -28,10 +28,10 @@ fn after_term(depth: usize, b: u8) -> TextStep
     if depth == 0 {
         return TextStep::Stops;
     }
-    if b == 44 {
+    if b == b',' {
         return TextStep::GoesOn(TextState::Due(depth));
     }
-    if b == 41 {
+    if b == b')' {
         return TextStep::GoesOn(TextState::Closed(depth - 1));
     }
     TextStep::Stops
@@ -48,7 +48,7 @@ fn after_name(depth: usize, bytes: usize, b: u8) -> TextStep
         }
         return TextStep::Stops;
     }
-    if b == 40 {
+    if b == b'(' {
         return TextStep::GoesOn(TextState::Due(depth + 1));
     }
     after_term(depth, b)

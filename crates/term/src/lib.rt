@@ -85,7 +85,7 @@ fn opens(text: &[u8], at: usize) -> bool
     ensures { λ r. ⌜ r ≡ eqb (getD (now (text .entry)) at 0) 40 ⌝ }
 {
     if at < text.len() {
-        return text[at] == 40;
+        return text[at] == b'(';
     }
     false
 }
@@ -120,7 +120,7 @@ fn put_entries(
                     return;
                 }
             }
-        } else if b == 41 {
+        } else if b == b')' {
             tree[at] = 0;
             at += 1;
             i += 1;
@@ -234,9 +234,9 @@ fn mark_after(e: u16) -> u8
     ensures { λ r. ⌜ r ≡ markAfter e ⌝ }
 {
     if e == 0 {
-        return 44;
+        return b',';
     }
-    40
+    b'('
 }
 
 // How many bytes an entry gives.
@@ -246,7 +246,7 @@ fn entry_length(names: &[u8], starts: &[u16; 256], n: usize, mark: u8, e: u16) -
     ensures { λ r. ⌜ (r ≡ length (entryText (now (names .entry)) mark e)) × (r ≤ 25) ⌝ }
 {
     if e == 0 {
-        if mark == 44 {
+        if mark == b',' {
             return 1;
         }
         return 0;
@@ -305,8 +305,8 @@ fn put_entry_text(
     ensures { λ r. ⌜ Put (now (text .entry)) (now (text .exit)) (entryText (now (names .entry)) mark e) at r ⌝ }
 {
     if e == 0 {
-        if mark == 44 {
-            text[at] = 41;
+        if mark == b',' {
+            text[at] = b')';
             return at + 1;
         }
         return at;
