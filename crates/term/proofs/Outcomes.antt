@@ -14,7 +14,6 @@ use Rattle.model.specs.Term.{Scan, passes, breaksAt, IsTerm, termThen}
 use Rattle.model.specs.Tree.{WellFormed}
 use Rattle.model.specs.TermOperations.{entriesOf, bytesOf, symbolGround, readTermOutcome, writeTermOutcome, readTermList, writeTermList}
 use Rattle.model.specs.declared.Answer.{Answer}
-use Rattle.model.specs.declared.Answer.the-variants.{Refused}
 use Rattle.model.proofs.Choice.{no-fault, fault-refused, is-false}
 use Rattle.model.specs.declared.Refusal.{Refusal}
 use Rattle.model.proofs.Scan.{whole-term}
@@ -37,8 +36,8 @@ use Rattle.term.proofs.Tokens.{emitted-is, names-counted}
 use Rattle.term.proofs.EntriesText.{entries-text}
 
 -- an answer with its list
-pub gave-refused : {o : Outcome} {written old : List ℕ} (r : Refusal) → refusedBy r ≡ o → Gave o written old old (Refused r)
-gave-refused {o} {written} {old} r e = record { answer = e; list = ap (λ (x : Outcome). lentAfter x written old) e }
+pub gave-refused : {o : Outcome} {written old : List ℕ} {r : Answer} (k p : ℕ) → outcome r ≡ refused k p → refused k p ≡ o → Gave o written old old r
+gave-refused {o} {written} {old} k p a e = record { answer = a ∙ e; list = ap (λ (x : Outcome). lentAfter x written old) e }
 
 pub gave-result : {o : Outcome} {written old new : List ℕ} {r : Answer} (n : ℕ) → outcome r ≡ result n → result n ≡ o → Front old new written → Gave o written old new r
 gave-result {o} {written} {old} n a e f = record { answer = a ∙ e; list = f .holds ∙ ap (λ (x : Outcome). lentAfter x written old) e }

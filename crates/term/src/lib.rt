@@ -3,7 +3,7 @@ use chains::Found;
 use chains::wide;
 use model::Answer;
 use model::Kind;
-use model::refuse;
+use model::refused_answer;
 use names::NamesCheck;
 use names::check_names;
 use names::find_name;
@@ -149,10 +149,10 @@ fn enter_tree(
 {
     let needed = count * 2;
     if 4096 < needed {
-        return Answer::Refused(refuse(Kind::TermTreeTooLong, 0));
+        return refused_answer(Kind::TermTreeTooLong, 0);
     }
     if tree.len() < needed {
-        return Answer::Refused(refuse(Kind::ShortTermTree, needed as u64));
+        return refused_answer(Kind::ShortTermTree, needed as u64);
     }
     put_entries(names, starts, heads, next, n, text, tree);
     Answer::Result(needed as u64)
@@ -174,7 +174,7 @@ fn read_whole(
     ensures { λ r. ⌜ Gave (readWhole (now (names .entry)) (now (text .entry)) (length (now (tree .entry)))) (entriesOf (now (names .entry)) (now (text .entry))) (now (tree .entry)) (now (tree .exit)) r ⌝ }
 {
     match list_names(names, starts, heads, next, n, text) {
-        Lookup::Unlisted(place) => Answer::Refused(refuse(Kind::UnlistedName, place as u64)),
+        Lookup::Unlisted(place) => refused_answer(Kind::UnlistedName, place as u64),
         Lookup::All(count) => enter_tree(names, starts, heads, next, n, text, count, tree),
     }
 }
@@ -194,10 +194,10 @@ fn read_named(
     ensures { λ r. ⌜ Gave (readNamed (now (names .entry)) (now (text .entry)) (length (now (tree .entry)))) (entriesOf (now (names .entry)) (now (text .entry))) (now (tree .entry)) (now (tree .exit)) r ⌝ }
 {
     if 65536 < text.len() {
-        return Answer::Refused(refuse(Kind::TextTooLong, 0));
+        return refused_answer(Kind::TextTooLong, 0);
     }
     match scan_text(text) {
-        Found::At(place) => Answer::Refused(refuse(Kind::NotATerm, place as u64)),
+        Found::At(place) => refused_answer(Kind::NotATerm, place as u64),
         Found::Nothing => read_whole(names, starts, heads, next, n, text, tree),
     }
 }
@@ -210,7 +210,7 @@ pub fn read_term(names: &[u8], text: &[u8], tree: &mut [u16]) -> Answer
     let mut heads = [0u16; 512];
     let mut next = [0u16; 256];
     match check_names(names, &mut starts, &mut heads, &mut next) {
-        NamesCheck::Faulty(line) => Answer::Refused(refuse(Kind::FaultyNames, line as u64)),
+        NamesCheck::Faulty(line) => refused_answer(Kind::FaultyNames, line as u64),
         NamesCheck::Sound(n) => read_named(names, &starts, &heads, &next, n, text, tree),
     }
 }
@@ -352,7 +352,7 @@ fn write_fitting(
 {
     let needed = text_length(names, starts, n, tree);
     if text.len() < needed {
-        return Answer::Refused(refuse(Kind::ShortTextList, needed as u64));
+        return refused_answer(Kind::ShortTextList, needed as u64);
     }
     put_text(names, starts, n, tree, text);
     Answer::Result(needed as u64)
@@ -372,7 +372,7 @@ fn write_formed(
     ensures { λ r. ⌜ Gave (writeFormed (now (names .entry)) (now (tree .entry)) (length (now (text .entry)))) (bytesOf (now (names .entry)) (now (tree .entry))) (now (text .entry)) (now (text .exit)) r ⌝ }
 {
     match first_unnamed(tree, n) {
-        Found::At(place) => Answer::Refused(refuse(Kind::UnnamedSymbol, place as u64)),
+        Found::At(place) => refused_answer(Kind::UnnamedSymbol, place as u64),
         Found::Nothing => write_fitting(names, starts, n, tree, text),
     }
 }
@@ -397,7 +397,7 @@ pub fn write_term(names: &[u8], tree: &[u16], text: &mut [u8]) -> Answer
     let mut heads = [0u16; 512];
     let mut next = [0u16; 256];
     match check_names(names, &mut starts, &mut heads, &mut next) {
-        NamesCheck::Faulty(line) => Answer::Refused(refuse(Kind::FaultyNames, line as u64)),
+        NamesCheck::Faulty(line) => refused_answer(Kind::FaultyNames, line as u64),
         NamesCheck::Sound(n) => write_named(names, &starts, n, tree, text),
     }
 }
