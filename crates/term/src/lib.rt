@@ -21,11 +21,11 @@ ghost use lib.Dec.{ltb, eqb};
 ghost use Rattle.model.specs.Names.{howManyNames};
 ghost use Rattle.model.specs.Term.{IsTerm};
 ghost use Rattle.model.specs.Tree.{WellFormed};
-ghost use Rattle.model.specs.TermOperations.{entriesOf, bytesOf};
+ghost use Rattle.model.specs.TermOperations.{entriesOf, bytesOf, readFits, readWhole, readNamed, writeFits, writeFormed, writeNamed};
 ghost use Rattle.chains.specs.First.{firstWith};
 ghost use Rattle.names.specs.NamesIndex.{NamesIndexed, Lined};
 ghost use Rattle.term.specs.Emit.{nodeEntries, emitted, nameCount, entryText, markAfter, entriesText};
-ghost use Rattle.term.specs.Written.{Put, Front, Listing, NamesListed, AllNamed, readFits, readWhole, readNamed, writeFits, writeFormed, writeNamed, Gave, ReadTerm, WriteTerm};
+ghost use Rattle.term.specs.Written.{Put, Front, Listing, NamesListed, AllNamed, Gave, ReadTerm, WriteTerm};
 
 // Every name in a text is listed, so many; or the first that is not begins at a place.
 pub enum Lookup {
@@ -145,7 +145,7 @@ fn enter_tree(
     requires { ⌜ NamesListed (now names) n (now text) ⌝ }
     requires { ⌜ IsTerm (now text) ⌝ }
     requires { ⌜ (count ≡ nameCount false (now text)) × (count ≤ 65536) ⌝ }
-    ensures { λ r. ⌜ Gave (readFits (now (names .entry)) (now (text .entry)) (length (now (tree .entry)))) (entriesOf (now (names .entry)) (now (text .entry))) (now (tree .entry)) (now (tree .exit)) r ⌝ }
+    ensures { λ r. ⌜ Gave (readFits 4096 (now (names .entry)) (now (text .entry)) (length (now (tree .entry)))) (entriesOf (now (names .entry)) (now (text .entry))) (now (tree .entry)) (now (tree .exit)) r ⌝ }
 {
     let needed = count * 2;
     if 4096 < needed {
@@ -171,7 +171,7 @@ fn read_whole(
     requires { ⌜ NamesIndexed (now names) (now starts) (now heads) (now next) n ⌝ }
     requires { ⌜ n ≡ howManyNames (now names) ⌝ }
     requires { ⌜ IsTerm (now text) × (length (now text) ≤ 65536) ⌝ }
-    ensures { λ r. ⌜ Gave (readWhole (now (names .entry)) (now (text .entry)) (length (now (tree .entry)))) (entriesOf (now (names .entry)) (now (text .entry))) (now (tree .entry)) (now (tree .exit)) r ⌝ }
+    ensures { λ r. ⌜ Gave (readWhole 4096 (now (names .entry)) (now (text .entry)) (length (now (tree .entry)))) (entriesOf (now (names .entry)) (now (text .entry))) (now (tree .entry)) (now (tree .exit)) r ⌝ }
 {
     match list_names(names, starts, heads, next, n, text) {
         Lookup::Unlisted(place) => refused_answer(Kind::UnlistedName, place as u64),
@@ -191,7 +191,7 @@ fn read_named(
 ) -> Answer
     requires { ⌜ NamesIndexed (now names) (now starts) (now heads) (now next) n ⌝ }
     requires { ⌜ n ≡ howManyNames (now names) ⌝ }
-    ensures { λ r. ⌜ Gave (readNamed (now (names .entry)) (now (text .entry)) (length (now (tree .entry)))) (entriesOf (now (names .entry)) (now (text .entry))) (now (tree .entry)) (now (tree .exit)) r ⌝ }
+    ensures { λ r. ⌜ Gave (readNamed 4096 (now (names .entry)) (now (text .entry)) (length (now (tree .entry)))) (entriesOf (now (names .entry)) (now (text .entry))) (now (tree .entry)) (now (tree .exit)) r ⌝ }
 {
     if 65536 < text.len() {
         return refused_answer(Kind::TextTooLong, 0);

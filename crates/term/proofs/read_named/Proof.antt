@@ -5,7 +5,8 @@ use Rattle.term.proofs.read_named.Statement.{statement}
 use Rattle.term.proofs.read_named.Tie as tie
 
 returns : tie.Need-returns
-returns c = gave-refused _ _ (c .refused-answer .ensures) (text-too-long _ _ _ (c .before .if1 .taken))
+returns c = let st = c .before .before .before .before .before in
+    gave-refused _ _ (c .refused-answer .ensures) (text-too-long (st .args .names .now) (st .args .text .now) _ (c .before .if1 .taken))
 
 read-whole-requires : tie.Need-read-whole-requires
 read-whole-requires c κs = (c .before .before .before .before .before .before .before .before .pre .0, (c .before .before .before .before .before .before .before .before .pre .1, (term-is _ (sym (c .before .enum-told .given .1) ∙ c .before .before .before .scan-text .ensures), c .before .before .before .before .if1 .left)))
