@@ -9,12 +9,13 @@ ghost use Rattle.model.specs.Term.{run};
 ghost use Rattle.chains.specs.Chains.{Clear};
 ghost use Rattle.names.specs.NamesIndex.{nameEnd, hashOf, nameFound, Lined, NamesIndexed, Started, NamesAnswer};
 
-// The list keeps to the rules, with so many names; or a line is the first faulty one.
+// What checking a names list finds: it keeps to the rules and has so many names, or this line is the first faulty one.
 pub enum NamesCheck {
     Sound(usize),
     Faulty(usize),
 }
 
+// An ASCII letter.
 pub fn is_letter(b: u8) -> bool
     ensures { λ r. ⌜ r ≡ isLetter b ⌝ }
 {
@@ -30,6 +31,7 @@ pub fn is_letter(b: u8) -> bool
     b <= b'z'
 }
 
+// A byte that may stand in a name: a letter, a digit, `-` or `_`.
 pub fn is_name_byte(b: u8) -> bool
     ensures { λ r. ⌜ r ≡ isNameByte b ⌝ }
 {
@@ -99,7 +101,7 @@ fn name_end(names: &[u8], at: usize) -> Found
     Found::Nothing
 }
 
-// The bucket of a name.
+// The hash of a name: which of the 512 buckets of the index it goes to.
 fn hash(name: &[u8]) -> usize
     ensures { λ r. ⌜ (r ≡ hashOf (now (name .entry))) × (r < 512) ⌝ }
 {
@@ -163,7 +165,7 @@ pub fn find_name(
     find_in(names, starts, heads, next, n, hash(name), name)
 }
 
-// The first faulty line; where there is none, the lines' starts and the index of names.
+// Finds the first faulty line. Where there is none, `starts` then holds where each line begins, and `heads` and `next` index the names.
 pub fn check_names(
     names: &[u8],
     starts: &mut [u16; 256],

@@ -7,7 +7,7 @@ use lib.ListN.{length, getD, take, drop}
 use Rattle.model.specs.Answers.{Outcome, refused, outcome, lentAfter}
 use Rattle.model.specs.Choice.{firstFaulty}
 use Rattle.model.specs.Names.{howManyNames}
-use Rattle.model.specs.TermOperations.{nameGround, readTermOutcome, writeTermOutcome, readTermList, writeTermList}
+use Rattle.model.specs.TermOperations.{entriesOf, bytesOf, nameGround, readTermOutcome, writeTermOutcome, readTermList, writeTermList}
 use Rattle.model.specs.declared.Answer.{Answer}
 use Rattle.term.specs.Emit.{nameCount}
 use Rattle.term.specs.declared.Lookup.{Lookup}
@@ -22,7 +22,7 @@ pub record Put (old new piece : List ℕ) (at next : ℕ) : Type 0 where
 pub record Front (old new written : List ℕ) : Type 0 where
   pub holds : new ≡ written ++ drop (length written) old
 
--- the refusal of 20, or where every name is listed what follows
+-- refusal 20, or what follows where every name is listed
 abbrev pub lookupThen : Lookup → Outcome → Outcome
 lookupThen (All count) otherwise = otherwise
 lookupThen (Unlisted place) otherwise = refused 20 place
@@ -48,6 +48,13 @@ pub record AllNamed (n : ℕ) (tree : List ℕ) : Type 0 where
 pub record Gave (o : Outcome) (written old new : List ℕ) (r : Answer) : Type 0 where
   pub answer : outcome r ≡ o
   pub list : new ≡ lentAfter o written old
+
+-- reading a term, and writing one, where the answer is given by a definition that takes the lent list's length
+abbrev pub ReadBy : (answered : (names text : List ℕ) (room : ℕ) → Outcome) (names text old new : List ℕ) → Answer → Type 0
+ReadBy answered names text old new r = Gave (answered names text (length old)) (entriesOf names text) old new r
+
+abbrev pub WriteBy : (answered : (names tree : List ℕ) (room : ℕ) → Outcome) (names tree old new : List ℕ) → Answer → Type 0
+WriteBy answered names tree old new r = Gave (answered names tree (length old)) (bytesOf names tree) old new r
 
 -- reading a term: the answer, and what the lent tree list then holds
 pub record ReadTerm (names text old new : List ℕ) (r : Answer) : Type 0 where

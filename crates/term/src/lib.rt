@@ -21,19 +21,19 @@ ghost use lib.Dec.{ltb, eqb};
 ghost use Rattle.model.specs.Names.{howManyNames};
 ghost use Rattle.model.specs.Term.{IsTerm};
 ghost use Rattle.model.specs.Tree.{WellFormed};
-ghost use Rattle.model.specs.TermOperations.{entriesOf, bytesOf, readFits, readWhole, readNamed, writeFits, writeFormed, writeNamed};
+ghost use Rattle.model.specs.TermOperations.{readFits, readWhole, readNamed, writeFits, writeFormed, writeNamed};
 ghost use Rattle.chains.specs.First.{firstWith};
 ghost use Rattle.names.specs.NamesIndex.{NamesIndexed, Lined};
 ghost use Rattle.term.specs.Emit.{nodeEntries, emitted, nameCount, entryText, markAfter, entriesText};
-ghost use Rattle.term.specs.Written.{Put, Front, Listing, NamesListed, AllNamed, Gave, ReadTerm, WriteTerm};
+ghost use Rattle.term.specs.Written.{Put, Front, Listing, NamesListed, AllNamed, ReadBy, WriteBy, ReadTerm, WriteTerm};
 
-// Every name in a text is listed, so many; or the first that is not begins at a place.
+// What looking up the names in a text finds: all are listed, and there are so many; or the first that is not listed begins at this place.
 pub enum Lookup {
     All(usize),
     Unlisted(usize),
 }
 
-// Whether every name in the text is listed.
+// Looks up every name in the text.
 fn list_names(
     names: &[u8],
     starts: &[u16; 256],
@@ -130,7 +130,7 @@ fn put_entries(
     }
 }
 
-// Enters the tree of a term whose names are all listed, where it is not too long and there is room.
+// Writes the tree of a term whose names are all listed, where it is not too long and there is room.
 fn enter_tree(
     names: &[u8],
     starts: &[u16; 256],
@@ -145,7 +145,7 @@ fn enter_tree(
     requires { ⌜ NamesListed (now names) n (now text) ⌝ }
     requires { ⌜ IsTerm (now text) ⌝ }
     requires { ⌜ (count ≡ nameCount false (now text)) × (count ≤ 65536) ⌝ }
-    ensures { λ r. ⌜ Gave (readFits 4096 (now (names .entry)) (now (text .entry)) (length (now (tree .entry)))) (entriesOf (now (names .entry)) (now (text .entry))) (now (tree .entry)) (now (tree .exit)) r ⌝ }
+    ensures { λ r. ⌜ ReadBy (readFits 4096) (now (names .entry)) (now (text .entry)) (now (tree .entry)) (now (tree .exit)) r ⌝ }
 {
     let needed = count * 2;
     if 4096 < needed {
@@ -171,7 +171,7 @@ fn read_whole(
     requires { ⌜ NamesIndexed (now names) (now starts) (now heads) (now next) n ⌝ }
     requires { ⌜ n ≡ howManyNames (now names) ⌝ }
     requires { ⌜ IsTerm (now text) × (length (now text) ≤ 65536) ⌝ }
-    ensures { λ r. ⌜ Gave (readWhole 4096 (now (names .entry)) (now (text .entry)) (length (now (tree .entry)))) (entriesOf (now (names .entry)) (now (text .entry))) (now (tree .entry)) (now (tree .exit)) r ⌝ }
+    ensures { λ r. ⌜ ReadBy (readWhole 4096) (now (names .entry)) (now (text .entry)) (now (tree .entry)) (now (tree .exit)) r ⌝ }
 {
     match list_names(names, starts, heads, next, n, text) {
         Lookup::Unlisted(place) => refused_answer(Kind::UnlistedName, place as u64),
@@ -191,7 +191,7 @@ fn read_named(
 ) -> Answer
     requires { ⌜ NamesIndexed (now names) (now starts) (now heads) (now next) n ⌝ }
     requires { ⌜ n ≡ howManyNames (now names) ⌝ }
-    ensures { λ r. ⌜ Gave (readNamed 4096 (now (names .entry)) (now (text .entry)) (length (now (tree .entry)))) (entriesOf (now (names .entry)) (now (text .entry))) (now (tree .entry)) (now (tree .exit)) r ⌝ }
+    ensures { λ r. ⌜ ReadBy (readNamed 4096) (now (names .entry)) (now (text .entry)) (now (tree .entry)) (now (tree .exit)) r ⌝ }
 {
     if 65536 < text.len() {
         return refused_answer(Kind::TextTooLong, 0);
@@ -229,7 +229,7 @@ fn first_unnamed(tree: &[u16], n: usize) -> Found
     Found::Nothing
 }
 
-// The byte that a name has before it after this entry: `,` after a bar, `(` after a symbol.
+// The separator before a name that follows this entry: `,` after a bar, `(` after a symbol.
 fn mark_after(e: u16) -> u8
     ensures { λ r. ⌜ r ≡ markAfter e ⌝ }
 {
@@ -239,7 +239,7 @@ fn mark_after(e: u16) -> u8
     b'('
 }
 
-// How many bytes an entry gives.
+// How many bytes an entry gives; `mark` is the separator before a name that stands here, 0 at the front of the text.
 fn entry_length(names: &[u8], starts: &[u16; 256], n: usize, mark: u8, e: u16) -> usize
     requires { ⌜ Lined (now names) (now starts) n ⌝ }
     requires { ⌜ e ≤ n ⌝ }
@@ -289,7 +289,7 @@ pub fn put_bytes(text: &mut [u8], at: usize, bytes: &[u8]) -> usize
     at + i
 }
 
-// Puts the bytes of an entry at a place; gives the place after them.
+// Puts the bytes that an entry gives at a place; gives the place after them.
 fn put_entry_text(
     names: &[u8],
     starts: &[u16; 256],
@@ -348,7 +348,7 @@ fn write_fitting(
     requires { ⌜ Lined (now names) (now starts) n ⌝ }
     requires { ⌜ AllNamed n (now tree) ⌝ }
     requires { ⌜ WellFormed (now tree) ⌝ }
-    ensures { λ r. ⌜ Gave (writeFits (now (names .entry)) (now (tree .entry)) (length (now (text .entry)))) (bytesOf (now (names .entry)) (now (tree .entry))) (now (text .entry)) (now (text .exit)) r ⌝ }
+    ensures { λ r. ⌜ WriteBy writeFits (now (names .entry)) (now (tree .entry)) (now (text .entry)) (now (text .exit)) r ⌝ }
 {
     let needed = text_length(names, starts, n, tree);
     if text.len() < needed {
@@ -369,7 +369,7 @@ fn write_formed(
     requires { ⌜ Lined (now names) (now starts) n ⌝ }
     requires { ⌜ n ≡ howManyNames (now names) ⌝ }
     requires { ⌜ WellFormed (now tree) × (length (now tree) ≤ 4096) ⌝ }
-    ensures { λ r. ⌜ Gave (writeFormed (now (names .entry)) (now (tree .entry)) (length (now (text .entry)))) (bytesOf (now (names .entry)) (now (tree .entry))) (now (text .entry)) (now (text .exit)) r ⌝ }
+    ensures { λ r. ⌜ WriteBy writeFormed (now (names .entry)) (now (tree .entry)) (now (text .entry)) (now (text .exit)) r ⌝ }
 {
     match first_unnamed(tree, n) {
         Found::At(place) => refused_answer(Kind::UnnamedSymbol, place as u64),
@@ -381,7 +381,7 @@ fn write_formed(
 fn write_named(names: &[u8], starts: &[u16; 256], n: usize, tree: &[u16], text: &mut [u8]) -> Answer
     requires { ⌜ Lined (now names) (now starts) n ⌝ }
     requires { ⌜ n ≡ howManyNames (now names) ⌝ }
-    ensures { λ r. ⌜ Gave (writeNamed (now (names .entry)) (now (tree .entry)) (length (now (text .entry)))) (bytesOf (now (names .entry)) (now (tree .entry))) (now (text .entry)) (now (text .exit)) r ⌝ }
+    ensures { λ r. ⌜ WriteBy writeNamed (now (names .entry)) (now (tree .entry)) (now (text .entry)) (now (text .exit)) r ⌝ }
 {
     match check_tree(tree) {
         Form::Refuses(r) => Answer::Refused(r),
