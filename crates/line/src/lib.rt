@@ -17,23 +17,24 @@ ghost use Rattle.term.specs.Written.{Put};
 ghost use Rattle.line.specs.Lines.{isDigit, decimal, printed, answerNumber, answerTerm, answerTo, outputFor};
 ghost use Rattle.line.specs.Held.{beyond, longestLine, Holds, Holding, Begins, part, Prints};
 
-// Above every total: a number that is too large to keep is taken as this one.
+// Above every total: this stands for every number from here up.
 const BEYOND: u64 = 4294967296;
 
-// A line so far: how many bytes it has (4,097 where there are more), whether each is a digit, and the number that they are.
+// A line so far: how many bytes it has (4,097 stands for more), whether all are digits, and the number that digits make.
 pub struct Line {
     len: usize,
     digits: bool,
     value: u64,
 }
 
-// The line so far after some bytes, the place of the next byte, and how many bytes are to be printed.
+// After bytes were fed: the line so far, the place of the next byte to feed, and how many bytes are to be printed.
 pub struct Fed {
     pub line: Line,
     pub next: usize,
     pub count: usize,
 }
 
+// A line without bytes.
 pub fn empty_line() -> Line
     ensures { λ r. ⌜ ((text : List ℕ) → length text ≡ 4096 → Holds [] r text) ⌝ }
 {
@@ -44,16 +45,17 @@ pub fn empty_line() -> Line
     }
 }
 
+// `0` to `9`.
 fn is_digit(b: u8) -> bool
     ensures { λ r. ⌜ r ≡ isDigit b ⌝ }
 {
-    if b < 48 {
+    if b < b'0' {
         return false;
     }
-    b <= 57
+    b <= b'9'
 }
 
-// Whether all bytes are digits, with one byte more.
+// Whether all bytes of a line are digits after one byte more.
 fn still_digits(digits: bool, b: u8) -> bool
     ensures { λ r. ⌜ r ≡ (digits && isDigit b) ⌝ }
 {
@@ -63,7 +65,7 @@ fn still_digits(digits: bool, b: u8) -> bool
     false
 }
 
-// A number with one digit more.
+// The number with one digit more, or BEYOND where it is too large.
 fn with_digit(value: u64, b: u8) -> u64
     ensures { λ r. ⌜ (isDigit b ≡ true → r ≡ min (value * 10 + (b - 48)) beyond) ⌝ }
 {
@@ -71,7 +73,7 @@ fn with_digit(value: u64, b: u8) -> u64
         return BEYOND;
     }
     if is_digit(b) {
-        let next = value * 10 + (b - 48) as u64;
+        let next = value * 10 + (b - b'0') as u64;
         if next < BEYOND {
             return next;
         }
@@ -79,7 +81,7 @@ fn with_digit(value: u64, b: u8) -> u64
     BEYOND
 }
 
-// One byte more: it is kept while there is room.
+// Adds a byte to the line; `text` keeps the first 4,096.
 fn feed(line: Line, b: u8, text: &mut [u8]) -> Line
     requires { ⌜ Holding line (now text) ⌝ }
     ensures { λ r. ⌜ ((held : List ℕ) → Holds held line (now (text .entry)) → (b ≡ 10 → ⊥) → Holds (held ++ b ∷ []) r (now (text .exit))) ⌝ }
@@ -102,7 +104,7 @@ fn feed(line: Line, b: u8, text: &mut [u8]) -> Line
     }
 }
 
-// Puts a number in decimal and a byte at a place; gives the place after them.
+// Puts a number in decimal, then a byte, at a place; gives the place after them.
 fn put_decimal(n: u64, mark: u8, at: usize, out: &mut [u8]) -> usize
     requires { ⌜ at + 21 ≤ length (now out) ⌝ }
     ensures { λ r. ⌜ Put (now (out .entry)) (now (out .exit)) (decimal n ++ mark ∷ []) at r × (r ≤ at + 21) ⌝ }
@@ -114,15 +116,15 @@ fn put_decimal(n: u64, mark: u8, at: usize, out: &mut [u8]) -> usize
     next + 1
 }
 
-// Puts the line of a number.
+// Puts the output line of a number at the front of `out`; gives its length.
 fn put_number(n: u64, out: &mut [u8]) -> usize
     requires { ⌜ longestLine ≤ length (now out) ⌝ }
     ensures { λ r. ⌜ Begins (now (out .exit)) (decimal n ++ 10 ∷ []) r ⌝ }
 {
-    put_decimal(n, 10, 0, out)
+    put_decimal(n, b'\n', 0, out)
 }
 
-// Puts the line of a refusal: its number and its place.
+// Puts the output line of a refusal: its number and its place.
 fn put_refusal(r: Refusal, out: &mut [u8]) -> usize
     requires { ⌜ longestLine ≤ length (now out) ⌝ }
     ensures { λ n. ⌜ Begins (now (out .exit)) (printed (refusedBy r) decimal) n ⌝ }
@@ -131,26 +133,28 @@ fn put_refusal(r: Refusal, out: &mut [u8]) -> usize
     let number = model::kind_number(kind) as u64;
     let place = r.place;
     let a = put_bytes(&mut *out, 0, b"refused ");
-    let b = put_decimal(number, 32, a, &mut *out);
-    put_decimal(place, 10, b, out)
+    let b = put_decimal(number, b' ', a, &mut *out);
+    put_decimal(place, b'\n', b, out)
 }
 
-// Puts the line of a tree: its term.
+// Puts the output line of a tree: its term.
 fn put_term(names: &[u8], tree: &[u16], out: &mut [u8]) -> usize
     requires { ⌜ longestLine ≤ length (now out) ⌝ }
-    ensures { λ r. ⌜ Begins (now (out .exit)) (printed (writeTermOutcome (now (names .entry)) (now (tree .entry)) (length (bytesOf (now (names .entry)) (now (tree .entry))))) (λ count. bytesOf (now (names .entry)) (now (tree .entry)))) r ⌝ }
+    ensures { λ r. ⌜ Begins (now (out .exit))
+        (printed (writeTermOutcome (now (names .entry)) (now (tree .entry)) (length (bytesOf (now (names .entry)) (now (tree .entry)))))
+        (λ count. bytesOf (now (names .entry)) (now (tree .entry)))) r ⌝ }
 {
     match term::write_term(names, tree, &mut *out) {
         Answer::Result(count) => {
             let n = count as usize;
-            out[n] = 10;
+            out[n] = b'\n';
             n + 1
         }
         Answer::Refused(r) => put_refusal(r, out),
     }
 }
 
-// Puts the line that answers a number.
+// Puts the output line that answers a number.
 fn answer_number(
     states: u64,
     rows: &[u16],
@@ -172,7 +176,7 @@ fn answer_number(
     }
 }
 
-// Puts the line of a tree's number.
+// Puts the output line of a tree's number.
 fn answer_tree(states: u64, rows: &[u16], accepting: &[u16], tree: &[u16], out: &mut [u8]) -> usize
     requires { ⌜ longestLine ≤ length (now out) ⌝ }
     ensures { λ r. ⌜ Begins (now (out .exit)) (printed (numberOutcome states (now (rows .entry)) (now (accepting .entry)) (now (tree .entry))) decimal) r ⌝ }
@@ -183,7 +187,7 @@ fn answer_tree(states: u64, rows: &[u16], accepting: &[u16], tree: &[u16], out: 
     }
 }
 
-// Puts the line that answers a term.
+// Puts the output line that answers a term.
 fn answer_term(
     states: u64,
     rows: &[u16],
@@ -215,7 +219,7 @@ fn is_number(line: Line) -> bool
     false
 }
 
-// Puts the line that answers a whole line.
+// Puts the output line that answers an input line.
 fn answer(
     states: u64,
     rows: &[u16],
@@ -227,7 +231,8 @@ fn answer(
 ) -> usize
     requires { ⌜ Holding line (now text) ⌝ }
     requires { ⌜ longestLine ≤ length (now out) ⌝ }
-    ensures { λ r. ⌜ ((held : List ℕ) → Holds held line (now (text .entry)) → Begins (now (out .exit)) (answerTo states (now (rows .entry)) (now (accepting .entry)) (now (names .entry)) held) r) ⌝ }
+    ensures { λ r. ⌜ ((held : List ℕ) → Holds held line (now (text .entry))
+        → Begins (now (out .exit)) (answerTo states (now (rows .entry)) (now (accepting .entry)) (now (names .entry)) held) r) ⌝ }
 {
     let n = line.len;
     let value = line.value;
@@ -240,7 +245,7 @@ fn answer(
     answer_term(states, rows, accepting, names, &text[..n], out)
 }
 
-// Feeds the bytes from a place on, to the end of a line or of the bytes. Puts the line that answers a line that has ended.
+// Feeds the bytes from a place on, up to the end of a line or of the bytes. Where a line has ended, puts the output line that answers it.
 pub fn feed_line(
     states: u64,
     rows: &[u16],
@@ -255,13 +260,15 @@ pub fn feed_line(
     requires { ⌜ Holding line (now text) ⌝ }
     requires { ⌜ (from < length (now bytes)) × (longestLine ≤ length (now out)) ⌝ }
     ensures { λ r. ⌜ (from < r .next) × (r .next ≤ length (now (bytes .entry))) ⌝ }
-    ensures { λ r. ⌜ ((held : List ℕ) → Holds held line (now (text .entry)) → Prints states (now (rows .entry)) (now (accepting .entry)) (now (names .entry)) held (part (now (bytes .entry)) from (r .next)) (r .line) (now (text .exit)) (now (out .exit)) (r .count)) ⌝ }
+    ensures { λ r. ⌜ ((held : List ℕ) → Holds held line (now (text .entry))
+        → Prints states (now (rows .entry)) (now (accepting .entry)) (now (names .entry)) held
+        (part (now (bytes .entry)) from (r .next)) (r .line) (now (text .exit)) (now (out .exit)) (r .count)) ⌝ }
 {
     let mut so_far = line;
     let mut i = from;
     while i < bytes.len() {
         let b = bytes[i];
-        if b == 10 {
+        if b == b'\n' {
             let n = answer(states, rows, accepting, names, so_far, &*text, out);
             return Fed {
                 line: empty_line(),
@@ -279,7 +286,8 @@ pub fn feed_line(
     }
 }
 
-// Puts the line that answers a last line without byte 10, where it is not empty; gives how many bytes are to be printed.
+// At the end of the input: puts the output line that answers a last line without byte 10, or nothing where that line is empty;
+// gives how many bytes are to be printed.
 pub fn last_line(
     states: u64,
     rows: &[u16],
@@ -291,7 +299,8 @@ pub fn last_line(
 ) -> usize
     requires { ⌜ Holding line (now text) ⌝ }
     requires { ⌜ longestLine ≤ length (now out) ⌝ }
-    ensures { λ r. ⌜ ((held : List ℕ) → Holds held line (now (text .entry)) → Begins (now (out .exit)) (outputFor states (now (rows .entry)) (now (accepting .entry)) (now (names .entry)) held) r) ⌝ }
+    ensures { λ r. ⌜ ((held : List ℕ) → Holds held line (now (text .entry))
+        → Begins (now (out .exit)) (outputFor states (now (rows .entry)) (now (accepting .entry)) (now (names .entry)) held) r) ⌝ }
 {
     let n = line.len;
     if n == 0 {

@@ -1,12 +1,12 @@
 -- Laws of name bytes and of names.
-use Prim.Native.Nat.{ℕ, _≤_}
+use Prim.Native.Nat.{ℕ, _≤_, _<_}
 use mathlib.Core.Path.{_≡_, refl}
 use mathlib.Core.Bool.{true, false, _&&_}
 use mathlib.Core.List.{List, [], _∷_, _++_}
 use native.Mathlib.Omega.{arith}
 use lib.ListN.{length, getD}
 use lib.Dec.{eqb, leb}
-use borrow.Author.Tests.{leb-true, le-leb, ne-eqb}
+use borrow.Author.Tests.{leb-true, le-leb, lt-leb, ne-eqb}
 use Rattle.model.specs.Names.{isLetter, isNameByte, allNameBytes, isName}
 use Rattle.model.specs.Term.{run}
 use Rattle.model.proofs.Choice.{and-true, and-both, not-both}
@@ -16,26 +16,27 @@ pub letter-byte : (b : ℕ) → isLetter b ≡ true → isNameByte b ≡ true
 unfolding isNameByte
 letter-byte b e = rw e
 
--- no name byte: the end of a text, a names list's byte 10, `(`, `)` and `,`
-pub end-no-byte : isNameByte 0 ≡ false
+-- the lowest name byte is `-`, 45
+low-no-byte : (b : ℕ) → b < 45 → isNameByte b ≡ false
 unfolding isNameByte isLetter
-end-no-byte = refl
+low-no-byte b l =
+    rw (lt-leb 65 b (omega arith), lt-leb 97 b (omega arith), lt-leb 48 b (omega arith), ne-eqb b 45 (λ e. omega arith), ne-eqb b 95 (λ e. omega arith))
+
+-- so no name byte: the end of a text, a names list's byte 10, `(`, `)` and `,`
+pub end-no-byte : isNameByte 0 ≡ false
+end-no-byte = low-no-byte 0 (omega arith)
 
 pub line-no-byte : isNameByte 10 ≡ false
-unfolding isNameByte isLetter
-line-no-byte = refl
+line-no-byte = low-no-byte 10 (omega arith)
 
 pub open-no-byte : isNameByte 40 ≡ false
-unfolding isNameByte isLetter
-open-no-byte = refl
+open-no-byte = low-no-byte 40 (omega arith)
 
 pub close-no-byte : isNameByte 41 ≡ false
-unfolding isNameByte isLetter
-close-no-byte = refl
+close-no-byte = low-no-byte 41 (omega arith)
 
 pub comma-no-byte : isNameByte 44 ≡ false
-unfolding isNameByte isLetter
-comma-no-byte = refl
+comma-no-byte = low-no-byte 44 (omega arith)
 
 -- a name byte is not byte 10
 pub byte-not-ten : (b : ℕ) → isNameByte b ≡ true → eqb b 10 ≡ false

@@ -16,7 +16,7 @@ use Rattle.model.specs.Tree.{WellFormed}
 use Rattle.model.specs.Names.{isNameByte, allNameBytes, isName, sameName, IsNamesList, Line, joined, linesOf, noLine, lineAt, howManyNames, isListed, lineGround, namesThen}
 use Rattle.model.specs.Entries.{formThen, treeThen}
 use Rattle.model.specs.Term.{Terms, none, term, alone, textOfTerms, textOf, AllNames, IsTerm, Scan, passes, breaksAt, breakThen, scan, due, termThen, run, nameBegins, nameAt}
-use Rattle.model.specs.TermOperations.{AllListed, entriesOf, bytesOf, nameGround, readTermOutcome, symbolGround, writeTermOutcome}
+use Rattle.model.specs.TermOperations.{AllListed, entriesOf, bytesOf, nameGround, readFits, readWhole, readNamed, readTermOutcome, symbolGround, writeFits, writeFormed, writeTermOutcome}
 use Rattle.model.specs.Place.{CanGoOn, StopsAt}
 use Rattle.model.specs.TermRefusals.{firstLines, FaultyLine, Placed, namesFrom, FirstUnlisted, FirstUnnamed, ReadRefused, read17, read18, read19, read20, read21, read22, WriteRefused, write17, write12, write13, write23, write24, ReadRefuses, WriteRefuses, ReadRefusedOnce, WriteRefusedOnce, ReadElse, WriteElse}
 use Rattle.model.proofs.Choice.{if-no, if-zero, not-both, no-fault, no-fault-back, refused-number, refused-place, Decided, clear, faulty, decided, if-refused, result-only, refused-only, one-place, if-place, if-some}
@@ -459,13 +459,13 @@ module _ (names text : List ℕ) (room : ℕ) where
   entries = length (entriesOf names text)
 
   abbrev entered : Outcome
-  entered = if ltb 4096 entries then refused 21 0 else if ltb room entries then refused 22 entries else result entries
+  entered = readFits 4096 names text room
 
   abbrev listing : Outcome
-  listing = firstFaulty (length text) (nameGround names text) entered
+  listing = readWhole 4096 names text room
 
   abbrev reading : Outcome
-  reading = if ltb 65536 (length text) then refused 18 0 else termThen text listing
+  reading = readNamed 4096 names text room
 
   -- a refusal has its ground
   read-ground : (k p : ℕ) → readTermOutcome names text room ≡ refused k p → ReadRefused names text room k p
@@ -545,10 +545,10 @@ module _ (names tree : List ℕ) (room : ℕ) where
   bytes = length (bytesOf names tree)
 
   abbrev writing24 : Outcome
-  writing24 = if ltb room bytes then refused 24 bytes else result bytes
+  writing24 = writeFits names tree room
 
   abbrev naming : Outcome
-  naming = firstFaulty (length tree) (symbolGround names tree) writing24
+  naming = writeFormed names tree room
 
   -- a refusal has its ground
   write-ground : (k p : ℕ) → writeTermOutcome names tree room ≡ refused k p → WriteRefused names tree room k p

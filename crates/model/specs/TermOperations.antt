@@ -46,21 +46,29 @@ AllListed names (term n inner right) = (isListed names n ≡ true) × AllListed 
 unfoldable pub nameGround : (names text : List ℕ) → ℕ → ℕ
 nameGround names text i = if nameBegins text i && not (isListed names (nameAt text i)) then 20 else 0
 
--- reading a term, with a limit for the entries of its tree
-abbrev pub readTermWithin : (limit : ℕ) (names text : List ℕ) (room : ℕ) → Outcome
-readTermWithin limit names text room =
-    let needed = length (entriesOf names text) in
-    -- "A names list against the rules above is 17"
-    namesThen names
-    -- "A text above 65,536 bytes is 18."
-    (if ltb 65536 (length text) then refused 18 0 else
-    -- "A text that is no term is 19"
-    termThen text
-    (firstFaulty (length text) (nameGround names text)
-    -- "A tree above 4,096 entries is 21."
-    (if ltb limit needed then refused 21 0 else
-    -- "A short lent list is 22, with the entries needed."
-    if ltb room needed then refused 22 needed else result needed)))
+-- Reading a term, with a limit for the entries of its tree: the grounds from the last to the first. Each definition is what is answered where no
+-- ground that document 01 names before holds
+module _ (limit : ℕ) (names text : List ℕ) (room : ℕ) where
+  -- "A tree above 4,096 entries is 21. A short lent list is 22, with the entries needed."
+  abbrev pub readFits : Outcome
+  readFits =
+      let needed = length (entriesOf names text) in
+      if ltb limit needed then refused 21 0 else
+      if ltb room needed then refused 22 needed else result needed
+
+  -- "A name not listed is 20"
+  abbrev pub readWhole : Outcome
+  readWhole = firstFaulty (length text) (nameGround names text) readFits
+
+  -- "A text above 65,536 bytes is 18. A text that is no term is 19"
+  abbrev pub readNamed : Outcome
+  readNamed =
+      if ltb 65536 (length text) then refused 18 0 else
+      termThen text readWhole
+
+  -- "A names list against the rules above is 17"
+  abbrev pub readTermWithin : Outcome
+  readTermWithin = namesThen names readNamed
 
 -- "Reading a term gives the count of tree entries written at the front", into a list of so many entries
 unfoldable pub readTermOutcome : (names text : List ℕ) (room : ℕ) → Outcome
@@ -70,16 +78,25 @@ readTermOutcome names text room = readTermWithin 4096 names text room
 unfoldable pub symbolGround : (names tree : List ℕ) → ℕ → ℕ
 symbolGround names tree i = if ltb (howManyNames names) (getD tree i 0) then 23 else 0
 
--- "Writing a term gives the count of bytes written at the front", into a list of so many bytes
-unfoldable pub writeTermOutcome : (names tree : List ℕ) (room : ℕ) → Outcome
-writeTermOutcome names tree room =
-    let needed = length (bytesOf names tree) in
-    -- "It refuses 17, then 12, then 13, as above."
-    namesThen names
-    (treeThen tree
-    (firstFaulty (length tree) (symbolGround names tree)
-    -- "A short lent list is 24, with the bytes needed."
-    (if ltb room needed then refused 24 needed else result needed)))
+-- Writing a term: the grounds from the last to the first, as for reading
+module _ (names tree : List ℕ) (room : ℕ) where
+  -- "A short lent list is 24, with the bytes needed."
+  abbrev pub writeFits : Outcome
+  writeFits =
+      let needed = length (bytesOf names tree) in
+      if ltb room needed then refused 24 needed else result needed
+
+  -- "A symbol above the count of names is 23"
+  abbrev pub writeFormed : Outcome
+  writeFormed = firstFaulty (length tree) (symbolGround names tree) writeFits
+
+  -- "then 12, then 13, as above"
+  abbrev pub writeNamed : Outcome
+  writeNamed = treeThen tree writeFormed
+
+  -- "Writing a term gives the count of bytes written at the front", into a list of so many bytes. "It refuses 17"
+  unfoldable pub writeTermOutcome : Outcome
+  writeTermOutcome = namesThen names writeNamed
 
 -- what the lent tree list holds after reading a term
 unfoldable pub readTermList : (names text tree : List ℕ) → List ℕ

@@ -28,10 +28,11 @@ nameFound names n name = firstWith (λ k. sameName (lineAt names k .bytes) name)
 unfoldable pub hashOf : List ℕ → ℕ
 hashOf name = spread 8388608 (mixAll 0 name)
 
+-- the bucket of the name on line k
 abbrev pub bucketOf : List ℕ → ℕ → ℕ
 bucketOf names k = hashOf (lineAt names k .bytes)
 
--- the bytes stand in the list from a place on, and the next line begins after them and byte 10
+-- a line of the list: its bytes stand from a place on, and the next line begins after them and byte 10
 pub record Stands (names : List ℕ) (from next : ℕ) (bytes : List ℕ) : Type 0 where
   pub ends : next ≡ from + length bytes + 1
   pub within : next ≤ length names
@@ -55,7 +56,7 @@ pub record Started (starts : List ℕ) : Type 0 where
   pub long : length starts ≡ 256
   pub first : getD starts 0 0 ≡ 0
 
--- the refusal, or where the list keeps to the rules what follows
+-- refusal 17, or what follows where the list keeps to the rules
 abbrev pub namesCheckThen : NamesCheck → Outcome → Outcome
 namesCheckThen (Sound n) otherwise = otherwise
 namesCheckThen (Faulty k) otherwise = refused 17 k

@@ -9,40 +9,42 @@ ghost use Rattle.model.specs.Term.{run};
 ghost use Rattle.chains.specs.Chains.{Clear};
 ghost use Rattle.names.specs.NamesIndex.{nameEnd, hashOf, nameFound, Lined, NamesIndexed, Started, NamesAnswer};
 
-// The list keeps to the rules, with so many names; or a line is the first faulty one.
+// What checking a names list finds: it keeps to the rules and has so many names, or this line is the first faulty one.
 pub enum NamesCheck {
     Sound(usize),
     Faulty(usize),
 }
 
+// An ASCII letter.
 pub fn is_letter(b: u8) -> bool
     ensures { λ r. ⌜ r ≡ isLetter b ⌝ }
 {
-    if b < 65 {
+    if b < b'A' {
         return false;
     }
-    if b <= 90 {
+    if b <= b'Z' {
         return true;
     }
-    if b < 97 {
+    if b < b'a' {
         return false;
     }
-    b <= 122
+    b <= b'z'
 }
 
+// A byte that may stand in a name: a letter, a digit, `-` or `_`.
 pub fn is_name_byte(b: u8) -> bool
     ensures { λ r. ⌜ r ≡ isNameByte b ⌝ }
 {
     if is_letter(b) {
         return true;
     }
-    if b < 48 {
-        return b == 45;
+    if b < b'0' {
+        return b == b'-';
     }
-    if b <= 57 {
+    if b <= b'9' {
         return true;
     }
-    b == 95
+    b == b'_'
 }
 
 // Whether two names are equal.
@@ -87,7 +89,7 @@ fn name_end(names: &[u8], at: usize) -> Found
     if end == names.len() {
         return Found::Nothing;
     }
-    if names[end] != 10 {
+    if names[end] != b'\n' {
         return Found::Nothing;
     }
     if 24 < end - at {
@@ -99,7 +101,7 @@ fn name_end(names: &[u8], at: usize) -> Found
     Found::Nothing
 }
 
-// The bucket of a name.
+// The hash of a name: which of the 512 buckets of the index it goes to.
 fn hash(name: &[u8]) -> usize
     ensures { λ r. ⌜ (r ≡ hashOf (now (name .entry))) × (r < 512) ⌝ }
 {
@@ -163,7 +165,7 @@ pub fn find_name(
     find_in(names, starts, heads, next, n, hash(name), name)
 }
 
-// The first faulty line; where there is none, the lines' starts and the index of names.
+// Finds the first faulty line. Where there is none, `starts` then holds where each line begins, and `heads` and `next` index the names.
 pub fn check_names(
     names: &[u8],
     starts: &mut [u16; 256],

@@ -9,6 +9,7 @@ use Rattle.scan.specs.declared.TextState.the-variants.{Due, InName, Clos
 use Rattle.scan.specs.declared.TextStep.{TextStep}
 use Rattle.scan.specs.declared.TextStep.the-variants.{GoesOn, Stops}
 
+-- the code's states and steps, as states and steps of document 01's definitions
 abbrev pub seen : TextState → term.ScanState
 seen (Due depth) = term.due depth
 seen (InName depth bytes) = term.inName depth bytes
@@ -24,10 +25,11 @@ depthOf (term.due depth) = depth
 depthOf (term.inName depth bytes) = depth
 depthOf (term.closed depth) = depth
 
--- the place at which a text stops being a term
+-- the place at which a text stops being a term, if it does
 abbrev pub placeOf : term.Scan → Found
 placeOf term.passes = Nothing
 placeOf (term.breaksAt place) = At place
 
+-- the whole text is read
 abbrev pub scanned : List ℕ → term.Scan
 scanned text = term.scan (term.due 0) 0 text

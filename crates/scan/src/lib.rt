@@ -8,36 +8,39 @@ ghost use lib.ListN.{length};
 ghost use Rattle.model.specs.Term.{inName, afterTerm, step, mayEnd};
 ghost use Rattle.scan.specs.TextState.{seen, seenStep, depthOf, placeOf, scanned};
 
-// Where a text is being read: so many brackets are open, and a name is due, so many bytes of a name are read, or a
-// bracket has just been closed.
+// What has been read of a text. The first number is how many brackets are open.
 pub enum TextState {
+    // a name must begin here
     Due(usize),
+    // so many bytes of a name have been read
     InName(usize, usize),
+    // the last byte was `)`
     Closed(usize),
 }
 
+// The next byte is taken, or no term can go on with it.
 pub enum TextStep {
     GoesOn(TextState),
     Stops,
 }
 
-// The byte after a whole term.
+// Reads the byte after a whole term.
 fn after_term(depth: usize, b: u8) -> TextStep
     ensures { λ r. ⌜ seenStep r ≡ afterTerm depth b ⌝ }
 {
     if depth == 0 {
         return TextStep::Stops;
     }
-    if b == 44 {
+    if b == b',' {
         return TextStep::GoesOn(TextState::Due(depth));
     }
-    if b == 41 {
+    if b == b')' {
         return TextStep::GoesOn(TextState::Closed(depth - 1));
     }
     TextStep::Stops
 }
 
-// The byte after so many bytes of a name.
+// Reads the byte after so many bytes of a name.
 fn after_name(depth: usize, bytes: usize, b: u8) -> TextStep
     requires { ⌜ depth < 65536 ⌝ }
     ensures { λ r. ⌜ seenStep r ≡ step (inName depth bytes) b ⌝ }
@@ -48,7 +51,7 @@ fn after_name(depth: usize, bytes: usize, b: u8) -> TextStep
         }
         return TextStep::Stops;
     }
-    if b == 40 {
+    if b == b'(' {
         return TextStep::GoesOn(TextState::Due(depth + 1));
     }
     after_term(depth, b)
@@ -82,7 +85,7 @@ fn may_end(r: TextState) -> bool
     }
 }
 
-// Where the text stops being a term, if it does.
+// The first byte with which no term can go on, or the text's length where it ends too soon; nothing where it is a term.
 pub fn scan_text(text: &[u8]) -> Found
     requires { ⌜ length (now text) ≤ 65536 ⌝ }
     ensures { λ r. ⌜ r ≡ placeOf (scanned (now (text .entry))) ⌝ }

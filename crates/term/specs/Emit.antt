@@ -12,14 +12,14 @@ use Rattle.model.specs.Term.{run}
 abbrev pub nodeEntries : (symbol : ℕ) (leaf : Bool) → List ℕ
 nodeEntries symbol leaf = symbol ∷ (if leaf then 0 ∷ [] else [])
 
--- the entries for a byte, other bytes following it: a name's first byte gives its symbol, and where no bracket is opened after the name a
--- leaf's bar; `)` gives a bar
+-- the entries that a byte b gives, where bs follow it and `inName` says that a name byte stands before it: a name's first byte gives the name's
+-- symbol and, where no `(` follows the name, a leaf's bar; `)` gives a bar; any other byte gives none
 unfoldable pub piece : (names : List ℕ) (inName : Bool) (b : ℕ) (bs : List ℕ) → List ℕ
 piece names inName b bs =
     if isNameByte b then (if inName then [] else nodeEntries (symbolOf names (b ∷ run bs)) (not (eqb (getD bs (length (run bs)) 0) 40))) else
     if eqb b 41 then 0 ∷ [] else []
 
--- the entries for the bytes, a name byte before them or none
+-- the entries that bytes give; `inName` says that a name byte stands before them
 unfoldable pub emitted : (names : List ℕ) (inName : Bool) → List ℕ → List ℕ
 emitted names inName [] = []
 emitted names inName (b ∷ bs) = piece names inName b bs ++ emitted names (isNameByte b) bs
@@ -29,16 +29,18 @@ unfoldable pub nameCount : (inName : Bool) → List ℕ → ℕ
 nameCount inName [] = 0
 nameCount inName (b ∷ bs) = (if isNameByte b && not inName then 1 else 0) + nameCount (isNameByte b) bs
 
--- the bytes for an entry: before the name of a symbol stands `(` where a symbol comes before it and `,` where a bar does; a bar after a bar
--- is `)`. What comes before is told by the byte that a name would have before it, 0 for none
+-- the bytes that an entry gives. A symbol gives its name, with the separator `mark` before it: `(` after a symbol, `,` after a bar, none (0) at
+-- the front. A bar gives `)` after a bar, and nothing after a symbol
 unfoldable pub entryText : (names : List ℕ) (mark e : ℕ) → List ℕ
 entryText names mark e =
     if eqb e 0 then (if eqb mark 44 then 41 ∷ [] else []) else
     (if eqb mark 0 then [] else mark ∷ []) ++ nameOf names e
 
+-- the separator before a name that follows this entry
 abbrev pub markAfter : ℕ → ℕ
 markAfter e = if eqb e 0 then 44 else 40
 
+-- the bytes that entries give
 unfoldable pub entriesText : (names : List ℕ) (mark : ℕ) → List ℕ → List ℕ
 entriesText names mark [] = []
 entriesText names mark (e ∷ es) = entryText names mark e ++ entriesText names (markAfter e) es

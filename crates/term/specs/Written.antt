@@ -4,13 +4,10 @@ use mathlib.Core.Path.{_≡_}
 use mathlib.Core.Bool.{false}
 use mathlib.Core.List.{List, _++_}
 use lib.ListN.{length, getD, take, drop}
-use lib.Dec.{ltb}
-use Rattle.model.specs.Answers.{Outcome, result, refused, outcome, lentAfter}
-use Rattle.model.specs.Choice.{if_then_else_, firstFaulty}
+use Rattle.model.specs.Answers.{Outcome, refused, outcome, lentAfter}
+use Rattle.model.specs.Choice.{firstFaulty}
 use Rattle.model.specs.Names.{howManyNames}
-use Rattle.model.specs.Term.{termThen}
-use Rattle.model.specs.Entries.{treeThen}
-use Rattle.model.specs.TermOperations.{entriesOf, bytesOf, nameGround, symbolGround, readTermOutcome, writeTermOutcome, readTermList, writeTermList}
+use Rattle.model.specs.TermOperations.{entriesOf, bytesOf, nameGround, readTermOutcome, writeTermOutcome, readTermList, writeTermList}
 use Rattle.model.specs.declared.Answer.{Answer}
 use Rattle.term.specs.Emit.{nameCount}
 use Rattle.term.specs.declared.Lookup.{Lookup}
@@ -25,7 +22,7 @@ pub record Put (old new piece : List ℕ) (at next : ℕ) : Type 0 where
 pub record Front (old new written : List ℕ) : Type 0 where
   pub holds : new ≡ written ++ drop (length written) old
 
--- the refusal of 20, or where every name is listed what follows
+-- refusal 20, or what follows where every name is listed
 abbrev pub lookupThen : Lookup → Outcome → Outcome
 lookupThen (All count) otherwise = otherwise
 lookupThen (Unlisted place) otherwise = refused 20 place
@@ -47,32 +44,17 @@ pub record AllNamed (n : ℕ) (tree : List ℕ) : Type 0 where
   pub few : length tree ≤ 4096
   pub named : (i : ℕ) → i < length tree → getD tree i 0 ≤ n
 
--- Reading after 20, after 19 and after 17: what follows in `readTermOutcome`
-unfoldable pub readFits : (names text : List ℕ) (room : ℕ) → Outcome
-readFits names text room =
-    if ltb 4096 (length (entriesOf names text)) then refused 21 0 else
-    if ltb room (length (entriesOf names text)) then refused 22 (length (entriesOf names text)) else result (length (entriesOf names text))
-
-unfoldable pub readWhole : (names text : List ℕ) (room : ℕ) → Outcome
-readWhole names text room = firstFaulty (length text) (nameGround names text) (readFits names text room)
-
-unfoldable pub readNamed : (names text : List ℕ) (room : ℕ) → Outcome
-readNamed names text room = if ltb 65536 (length text) then refused 18 0 else termThen text (readWhole names text room)
-
--- Writing after 23, after 13 and after 17: what follows in `writeTermOutcome`
-unfoldable pub writeFits : (names tree : List ℕ) (room : ℕ) → Outcome
-writeFits names tree room = if ltb room (length (bytesOf names tree)) then refused 24 (length (bytesOf names tree)) else result (length (bytesOf names tree))
-
-unfoldable pub writeFormed : (names tree : List ℕ) (room : ℕ) → Outcome
-writeFormed names tree room = firstFaulty (length tree) (symbolGround names tree) (writeFits names tree room)
-
-unfoldable pub writeNamed : (names tree : List ℕ) (room : ℕ) → Outcome
-writeNamed names tree room = treeThen tree (writeFormed names tree room)
-
 -- the answer is the outcome, and the lent list then holds what is written and the old rest, or on a refusal the old list
 pub record Gave (o : Outcome) (written old new : List ℕ) (r : Answer) : Type 0 where
   pub answer : outcome r ≡ o
   pub list : new ≡ lentAfter o written old
+
+-- reading a term, and writing one, where the answer is given by a definition that takes the lent list's length
+abbrev pub ReadBy : (answered : (names text : List ℕ) (room : ℕ) → Outcome) (names text old new : List ℕ) → Answer → Type 0
+ReadBy answered names text old new r = Gave (answered names text (length old)) (entriesOf names text) old new r
+
+abbrev pub WriteBy : (answered : (names tree : List ℕ) (room : ℕ) → Outcome) (names tree old new : List ℕ) → Answer → Type 0
+WriteBy answered names tree old new r = Gave (answered names tree (length old)) (bytesOf names tree) old new r
 
 -- reading a term: the answer, and what the lent tree list then holds
 pub record ReadTerm (names text old new : List ℕ) (r : Answer) : Type 0 where

@@ -3,7 +3,7 @@ use chains::Found;
 use chains::wide;
 use model::Answer;
 use model::Kind;
-use model::refuse;
+use model::refused_answer;
 use names::NamesCheck;
 use names::check_names;
 use names::find_name;
@@ -21,19 +21,19 @@ ghost use lib.Dec.{ltb, eqb};
 ghost use Rattle.model.specs.Names.{howManyNames};
 ghost use Rattle.model.specs.Term.{IsTerm};
 ghost use Rattle.model.specs.Tree.{WellFormed};
-ghost use Rattle.model.specs.TermOperations.{entriesOf, bytesOf};
+ghost use Rattle.model.specs.TermOperations.{readFits, readWhole, readNamed, writeFits, writeFormed, writeNamed};
 ghost use Rattle.chains.specs.First.{firstWith};
 ghost use Rattle.names.specs.NamesIndex.{NamesIndexed, Lined};
 ghost use Rattle.term.specs.Emit.{nodeEntries, emitted, nameCount, entryText, markAfter, entriesText};
-ghost use Rattle.term.specs.Written.{Put, Front, Listing, NamesListed, AllNamed, readFits, readWhole, readNamed, writeFits, writeFormed, writeNamed, Gave, ReadTerm, WriteTerm};
+ghost use Rattle.term.specs.Written.{Put, Front, Listing, NamesListed, AllNamed, ReadBy, WriteBy, ReadTerm, WriteTerm};
 
-// Every name in a text is listed, so many; or the first that is not begins at a place.
+// What looking up the names in a text finds: all are listed, and there are so many; or the first that is not listed begins at this place.
 pub enum Lookup {
     All(usize),
     Unlisted(usize),
 }
 
-// Whether every name in the text is listed.
+// Looks up every name in the text.
 fn list_names(
     names: &[u8],
     starts: &[u16; 256],
@@ -85,7 +85,7 @@ fn opens(text: &[u8], at: usize) -> bool
     ensures { λ r. ⌜ r ≡ eqb (getD (now (text .entry)) at 0) 40 ⌝ }
 {
     if at < text.len() {
-        return text[at] == 40;
+        return text[at] == b'(';
     }
     false
 }
@@ -120,7 +120,7 @@ fn put_entries(
                     return;
                 }
             }
-        } else if b == 41 {
+        } else if b == b')' {
             tree[at] = 0;
             at += 1;
             i += 1;
@@ -130,7 +130,7 @@ fn put_entries(
     }
 }
 
-// Enters the tree of a term whose names are all listed, where it is not too long and there is room.
+// Writes the tree of a term whose names are all listed, where it is not too long and there is room.
 fn enter_tree(
     names: &[u8],
     starts: &[u16; 256],
@@ -145,14 +145,14 @@ fn enter_tree(
     requires { ⌜ NamesListed (now names) n (now text) ⌝ }
     requires { ⌜ IsTerm (now text) ⌝ }
     requires { ⌜ (count ≡ nameCount false (now text)) × (count ≤ 65536) ⌝ }
-    ensures { λ r. ⌜ Gave (readFits (now (names .entry)) (now (text .entry)) (length (now (tree .entry)))) (entriesOf (now (names .entry)) (now (text .entry))) (now (tree .entry)) (now (tree .exit)) r ⌝ }
+    ensures { λ r. ⌜ ReadBy (readFits 4096) (now (names .entry)) (now (text .entry)) (now (tree .entry)) (now (tree .exit)) r ⌝ }
 {
     let needed = count * 2;
     if 4096 < needed {
-        return Answer::Refused(refuse(Kind::TermTreeTooLong, 0));
+        return refused_answer(Kind::TermTreeTooLong, 0);
     }
     if tree.len() < needed {
-        return Answer::Refused(refuse(Kind::ShortTermTree, needed as u64));
+        return refused_answer(Kind::ShortTermTree, needed as u64);
     }
     put_entries(names, starts, heads, next, n, text, tree);
     Answer::Result(needed as u64)
@@ -171,10 +171,10 @@ fn read_whole(
     requires { ⌜ NamesIndexed (now names) (now starts) (now heads) (now next) n ⌝ }
     requires { ⌜ n ≡ howManyNames (now names) ⌝ }
     requires { ⌜ IsTerm (now text) × (length (now text) ≤ 65536) ⌝ }
-    ensures { λ r. ⌜ Gave (readWhole (now (names .entry)) (now (text .entry)) (length (now (tree .entry)))) (entriesOf (now (names .entry)) (now (text .entry))) (now (tree .entry)) (now (tree .exit)) r ⌝ }
+    ensures { λ r. ⌜ ReadBy (readWhole 4096) (now (names .entry)) (now (text .entry)) (now (tree .entry)) (now (tree .exit)) r ⌝ }
 {
     match list_names(names, starts, heads, next, n, text) {
-        Lookup::Unlisted(place) => Answer::Refused(refuse(Kind::UnlistedName, place as u64)),
+        Lookup::Unlisted(place) => refused_answer(Kind::UnlistedName, place as u64),
         Lookup::All(count) => enter_tree(names, starts, heads, next, n, text, count, tree),
     }
 }
@@ -191,13 +191,13 @@ fn read_named(
 ) -> Answer
     requires { ⌜ NamesIndexed (now names) (now starts) (now heads) (now next) n ⌝ }
     requires { ⌜ n ≡ howManyNames (now names) ⌝ }
-    ensures { λ r. ⌜ Gave (readNamed (now (names .entry)) (now (text .entry)) (length (now (tree .entry)))) (entriesOf (now (names .entry)) (now (text .entry))) (now (tree .entry)) (now (tree .exit)) r ⌝ }
+    ensures { λ r. ⌜ ReadBy (readNamed 4096) (now (names .entry)) (now (text .entry)) (now (tree .entry)) (now (tree .exit)) r ⌝ }
 {
     if 65536 < text.len() {
-        return Answer::Refused(refuse(Kind::TextTooLong, 0));
+        return refused_answer(Kind::TextTooLong, 0);
     }
     match scan_text(text) {
-        Found::At(place) => Answer::Refused(refuse(Kind::NotATerm, place as u64)),
+        Found::At(place) => refused_answer(Kind::NotATerm, place as u64),
         Found::Nothing => read_whole(names, starts, heads, next, n, text, tree),
     }
 }
@@ -210,7 +210,7 @@ pub fn read_term(names: &[u8], text: &[u8], tree: &mut [u16]) -> Answer
     let mut heads = [0u16; 512];
     let mut next = [0u16; 256];
     match check_names(names, &mut starts, &mut heads, &mut next) {
-        NamesCheck::Faulty(line) => Answer::Refused(refuse(Kind::FaultyNames, line as u64)),
+        NamesCheck::Faulty(line) => refused_answer(Kind::FaultyNames, line as u64),
         NamesCheck::Sound(n) => read_named(names, &starts, &heads, &next, n, text, tree),
     }
 }
@@ -229,24 +229,24 @@ fn first_unnamed(tree: &[u16], n: usize) -> Found
     Found::Nothing
 }
 
-// The byte that a name has before it after this entry: `,` after a bar, `(` after a symbol.
+// The separator before a name that follows this entry: `,` after a bar, `(` after a symbol.
 fn mark_after(e: u16) -> u8
     ensures { λ r. ⌜ r ≡ markAfter e ⌝ }
 {
     if e == 0 {
-        return 44;
+        return b',';
     }
-    40
+    b'('
 }
 
-// How many bytes an entry gives.
+// How many bytes an entry gives; `mark` is the separator before a name that stands here, 0 at the front of the text.
 fn entry_length(names: &[u8], starts: &[u16; 256], n: usize, mark: u8, e: u16) -> usize
     requires { ⌜ Lined (now names) (now starts) n ⌝ }
     requires { ⌜ e ≤ n ⌝ }
     ensures { λ r. ⌜ (r ≡ length (entryText (now (names .entry)) mark e)) × (r ≤ 25) ⌝ }
 {
     if e == 0 {
-        if mark == 44 {
+        if mark == b',' {
             return 1;
         }
         return 0;
@@ -289,7 +289,7 @@ pub fn put_bytes(text: &mut [u8], at: usize, bytes: &[u8]) -> usize
     at + i
 }
 
-// Puts the bytes of an entry at a place; gives the place after them.
+// Puts the bytes that an entry gives at a place; gives the place after them.
 fn put_entry_text(
     names: &[u8],
     starts: &[u16; 256],
@@ -305,8 +305,8 @@ fn put_entry_text(
     ensures { λ r. ⌜ Put (now (text .entry)) (now (text .exit)) (entryText (now (names .entry)) mark e) at r ⌝ }
 {
     if e == 0 {
-        if mark == 44 {
-            text[at] = 41;
+        if mark == b',' {
+            text[at] = b')';
             return at + 1;
         }
         return at;
@@ -348,11 +348,11 @@ fn write_fitting(
     requires { ⌜ Lined (now names) (now starts) n ⌝ }
     requires { ⌜ AllNamed n (now tree) ⌝ }
     requires { ⌜ WellFormed (now tree) ⌝ }
-    ensures { λ r. ⌜ Gave (writeFits (now (names .entry)) (now (tree .entry)) (length (now (text .entry)))) (bytesOf (now (names .entry)) (now (tree .entry))) (now (text .entry)) (now (text .exit)) r ⌝ }
+    ensures { λ r. ⌜ WriteBy writeFits (now (names .entry)) (now (tree .entry)) (now (text .entry)) (now (text .exit)) r ⌝ }
 {
     let needed = text_length(names, starts, n, tree);
     if text.len() < needed {
-        return Answer::Refused(refuse(Kind::ShortTextList, needed as u64));
+        return refused_answer(Kind::ShortTextList, needed as u64);
     }
     put_text(names, starts, n, tree, text);
     Answer::Result(needed as u64)
@@ -369,10 +369,10 @@ fn write_formed(
     requires { ⌜ Lined (now names) (now starts) n ⌝ }
     requires { ⌜ n ≡ howManyNames (now names) ⌝ }
     requires { ⌜ WellFormed (now tree) × (length (now tree) ≤ 4096) ⌝ }
-    ensures { λ r. ⌜ Gave (writeFormed (now (names .entry)) (now (tree .entry)) (length (now (text .entry)))) (bytesOf (now (names .entry)) (now (tree .entry))) (now (text .entry)) (now (text .exit)) r ⌝ }
+    ensures { λ r. ⌜ WriteBy writeFormed (now (names .entry)) (now (tree .entry)) (now (text .entry)) (now (text .exit)) r ⌝ }
 {
     match first_unnamed(tree, n) {
-        Found::At(place) => Answer::Refused(refuse(Kind::UnnamedSymbol, place as u64)),
+        Found::At(place) => refused_answer(Kind::UnnamedSymbol, place as u64),
         Found::Nothing => write_fitting(names, starts, n, tree, text),
     }
 }
@@ -381,7 +381,7 @@ fn write_formed(
 fn write_named(names: &[u8], starts: &[u16; 256], n: usize, tree: &[u16], text: &mut [u8]) -> Answer
     requires { ⌜ Lined (now names) (now starts) n ⌝ }
     requires { ⌜ n ≡ howManyNames (now names) ⌝ }
-    ensures { λ r. ⌜ Gave (writeNamed (now (names .entry)) (now (tree .entry)) (length (now (text .entry)))) (bytesOf (now (names .entry)) (now (tree .entry))) (now (text .entry)) (now (text .exit)) r ⌝ }
+    ensures { λ r. ⌜ WriteBy writeNamed (now (names .entry)) (now (tree .entry)) (now (text .entry)) (now (text .exit)) r ⌝ }
 {
     match check_tree(tree) {
         Form::Refuses(r) => Answer::Refused(r),
@@ -397,7 +397,7 @@ pub fn write_term(names: &[u8], tree: &[u16], text: &mut [u8]) -> Answer
     let mut heads = [0u16; 512];
     let mut next = [0u16; 256];
     match check_names(names, &mut starts, &mut heads, &mut next) {
-        NamesCheck::Faulty(line) => Answer::Refused(refuse(Kind::FaultyNames, line as u64)),
+        NamesCheck::Faulty(line) => refused_answer(Kind::FaultyNames, line as u64),
         NamesCheck::Sound(n) => write_named(names, &starts, n, tree, text),
     }
 }

@@ -68,7 +68,8 @@ fn feed_line(line: Line, bytes: &[u8], from: usize, text: &mut [u8], out: &mut [
     requires { ⌜ Holding line (now text) ⌝ }
     requires { ⌜ (from < length (now bytes)) × (longestLine ≤ length (now out)) ⌝ }
     ensures { λ r. ⌜ (from < r .next) × (r .next ≤ length (now (bytes .entry))) ⌝ }
-    ensures { λ r. ⌜ ((held : List ℕ) → Holds held line (now (text .entry)) → PrintsLine held (part (now (bytes .entry)) from (r .next)) (r .line) (now (text .exit)) (now (out .exit)) (r .count)) ⌝ }
+    ensures { λ r. ⌜ ((held : List ℕ) → Holds held line (now (text .entry))
+        → PrintsLine held (part (now (bytes .entry)) from (r .next)) (r .line) (now (text .exit)) (now (out .exit)) (r .count)) ⌝ }
 {
     line::feed_line(
         STATES,

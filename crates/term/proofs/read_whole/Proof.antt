@@ -1,5 +1,4 @@
 use native.Mathlib.Omega.{arith}
-use mathlib.Core.Path.{_∙_}
 use Rattle.term.proofs.Outcomes.{gave-refused, gave-same, not-listed, all-listed}
 use borrow.Author.Needs.{needs}
 use Rattle.term.proofs.read_whole.Statement.{statement}
@@ -12,7 +11,7 @@ enter-tree-requires c κs = let st = c .before .before .before .before .before .
     (st .pre .0, (record { all = st .pre .1 .0; none = x .none _ e }, (st .pre .1 .1 .0, (x .counted _ e, omega (arith, x .few _ e, st .pre .1 .1 .1)))))
 
 returns : tie.Need-returns
-returns c = gave-refused _ (c .refuse .ensures ∙ not-listed (c .before .before .before .before .list-names .ensures) _ _ (c .before .before .place .given .1))
+returns c = gave-refused _ _ (c .refused-answer .ensures) (not-listed (c .before .before .before .before .list-names .ensures) _ _ (c .before .before .place .given .1))
 
 returns-2 : tie.Need-returns-2
 returns-2 c = gave-same (all-listed (c .before .before .before .before .before .before .before .list-names .ensures) _ _ (c .before .before .before .before .before .count .given .1)) (c .before .before .enter-tree .ensures)

@@ -1,4 +1,4 @@
-use mathlib.Core.Path.{refl, _∙_}
+use mathlib.Core.Path.{refl}
 use native.Mathlib.Omega.{arith}
 use Rattle.term.proofs.Outcomes.{gave-refused, gave-result, short-text, text-fits, text-front}
 use borrow.Author.Needs.{needs}
@@ -6,7 +6,7 @@ use Rattle.term.proofs.write_fitting.Statement.{statement}
 use Rattle.term.proofs.write_fitting.Tie as tie
 
 returns : tie.Need-returns
-returns c = gave-refused _ (c .refuse .ensures ∙ short-text _ _ _ _ (c .before .before .before .before .before .before .pre .1 .1) (c .before .before .text-length .ensures) (c .before .if1 .taken))
+returns c = gave-refused _ _ (c .refused-answer .ensures) (short-text _ _ _ _ (c .before .before .before .before .before .before .pre .1 .1) (c .before .before .text-length .ensures) (c .before .if1 .taken))
 
 put-text-requires : tie.Need-put-text-requires
 put-text-requires c κs = (c .before .before .before .before .before .before .pre .0, (c .before .before .before .before .before .before .pre .1 .0, omega (arith, c .before .before .text-length .ensures, c .before .if1 .left)))

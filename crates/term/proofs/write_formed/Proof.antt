@@ -8,7 +8,8 @@ write-fitting-requires : tie.Need-write-fitting-requires
 write-fitting-requires c κs = (c .before .before .before .before .before .before .before .pre .0, (named-low (c .before .before .before .before .before .before .before .args .names .now) _ _ 0 (c .before .before .before .before .before .before .before .pre .1 .0) (c .before .before .before .before .before .before .before .pre .1 .1 .1) (sym (c .before .before .before .first-unnamed .ensures) ∙ c .before .enum-told .given .1), c .before .before .before .before .before .before .before .pre .1 .1 .0))
 
 returns : tie.Need-returns
-returns c = gave-refused _ (c .refuse .ensures ∙ unnamed _ _ _ _ (c .before .before .before .before .before .before .before .before .pre .1 .0) _ (sym (c .before .before .before .before .first-unnamed .ensures) ∙ c .before .before .place .given .1))
+returns c = let st = c .before .before .before .before .before .before .before .before in
+    gave-refused _ _ (c .refused-answer .ensures) (unnamed (st .args .names .now) (st .args .tree .now) _ _ (st .pre .1 .0) _ (sym (c .before .before .before .before .first-unnamed .ensures) ∙ c .before .before .place .given .1))
 
 returns-2 : tie.Need-returns-2
 returns-2 c = gave-same (all-named _ _ _ _ (c .before .before .before .before .before .before .before .before .before .before .pre .1 .0) (sym (c .before .before .before .before .before .before .first-unnamed .ensures) ∙ c .before .before .before .before .enum-told .given .1)) (c .before .before .write-fitting .ensures)

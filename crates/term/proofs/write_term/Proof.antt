@@ -12,7 +12,7 @@ write-named-requires : tie.Need-write-named-requires
 write-named-requires c κs = (c .before .before .before .before .before .check-names .ensures .known _ (c .before .before .before .n .given .1) .lined, c .before .before .before .before .before .check-names .ensures .count _ (c .before .before .before .n .given .1))
 
 returns : tie.Need-returns
-returns c = write-told (gave-refused _ (c .refuse .ensures ∙ faulty-names (c .before .before .before .before .check-names .ensures) _ _ (c .before .before .line .given .1) ∙ write-by _ _ _))
+returns c = write-told (gave-refused _ _ (c .refused-answer .ensures) (faulty-names (c .before .before .before .before .check-names .ensures) _ _ (c .before .before .line .given .1) ∙ write-by _ _ _))
 
 returns-2 : tie.Need-returns-2
 returns-2 c = write-told (gave-same (sound-names (c .before .before .before .before .before .before .before .before .check-names .ensures) _ _ (c .before .before .before .before .before .before .n .given .1) ∙ write-by _ _ _) (c .before .before .write-named .ensures))
