@@ -182,27 +182,19 @@ pub fn check_names(
         if 255 <= n {
             return NamesCheck::Faulty(n);
         }
-        match name_end(names, at) {
-            Found::Nothing => {
-                return NamesCheck::Faulty(n);
-            }
-            Found::At(end) => {
-                let name = &names[at..end];
-                let b = hash(name);
-                match find_in(names, &*starts, &*heads, &*next, n, b, name) {
-                    Found::At(_) => {
-                        return NamesCheck::Faulty(n);
-                    }
-                    Found::Nothing => {
-                        next[n] = heads[b];
-                        n += 1;
-                        heads[b] = n as u16;
-                        at = end + 1;
-                        starts[n] = at as u16;
-                    }
-                }
-            }
+        let Found::At(end) = name_end(names, at) else {
+            return NamesCheck::Faulty(n);
+        };
+        let name = &names[at..end];
+        let b = hash(name);
+        if let Found::At(_) = find_in(names, &*starts, &*heads, &*next, n, b, name) {
+            return NamesCheck::Faulty(n);
         }
+        next[n] = heads[b];
+        n += 1;
+        heads[b] = n as u16;
+        at = end + 1;
+        starts[n] = at as u16;
     }
     if n == 0 {
         return NamesCheck::Faulty(0);

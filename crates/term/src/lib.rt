@@ -51,15 +51,11 @@ fn list_names(
     while i < text.len() {
         if is_name_byte(text[i]) {
             let end = run_end(text, i);
-            match find_name(names, starts, heads, next, n, &text[i..end]) {
-                Found::Nothing => {
-                    return Lookup::Unlisted(i);
-                }
-                Found::At(_) => {
-                    count += 1;
-                    i = end;
-                }
-            }
+            let Found::At(_) = find_name(names, starts, heads, next, n, &text[i..end]) else {
+                return Lookup::Unlisted(i);
+            };
+            count += 1;
+            i = end;
         } else {
             i += 1;
         }
@@ -111,15 +107,11 @@ fn put_entries(
         let b = text[i];
         if is_name_byte(b) {
             let end = run_end(text, i);
-            match find_name(names, starts, heads, next, n, &text[i..end]) {
-                Found::At(k) => {
-                    at = put_node(&mut *tree, at, (k + 1) as u16, !opens(text, end));
-                    i = end;
-                }
-                Found::Nothing => {
-                    return;
-                }
-            }
+            let Found::At(k) = find_name(names, starts, heads, next, n, &text[i..end]) else {
+                return;
+            };
+            at = put_node(&mut *tree, at, (k + 1) as u16, !opens(text, end));
+            i = end;
         } else if b == b')' {
             tree[at] = 0;
             at += 1;

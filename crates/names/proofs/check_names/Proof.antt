@@ -71,8 +71,8 @@ check-names-spec =
     returns
     (λ c κs. search needs)
     (λ c. search needs)
-    returns-2
     (λ c. search needs)
+    returns-2
     sub-name
     part-name-start
     part-name-end

@@ -41,7 +41,7 @@ returns : tie.Need-returns Inv-loop μ-loop
 returns c = let st = c .before .before .before .before .before .before .before .before .before .before .before .before in
     counted-stop (c .before .before .before .before .before .before .before .before .before .loop .inv) (c .before .before .before .before .before .before .before .before .loop-test .taken)
     (unlisted-ground (st .args .names .now) (st .args .text .now) (c .before .before .before .before .before .before .before .before .before .loop .i) _ (c .before .before .before .before .before .before .before .before .loop-test .taken) (byte (c .before .before .before .before .before)) (c .before .before .before .before .run-end .ensures .0) _ (st .pre .1) (c .before .before .before .before .before .before .before .before .before .loop .inv .fresh)
-    (sym (c .before .before .find-name .ensures) ∙ c .enum-told .given .1))
+    (sym (c .before .before .find-name .ensures) ∙ c .enum-told2 .given .1))
 
 add-count : tie.Need-add-count Inv-loop μ-loop
 add-count c = omega (arith, c .before .before .before .before .before .before .before .before .before .loop .inv .small, c .before .before .before .before .before .before .before .before .loop-test .taken)
@@ -55,7 +55,7 @@ loop-again c = let st = c .before .before .before .before .before .before .befor
     let x = c .before .before .before .before .before .before .before .before .before .loop .inv in
     let l = c .before .before .before .before .before .before .before .before .loop-test .taken in
     let q = c .before .before .before .before .run-end .ensures .0 in
-    let g = listed-ground (st .args .names .now) (st .args .text .now) (c .before .before .before .before .before .before .before .before .before .loop .i) _ l (byte (c .before .before .before .before .before)) q _ _ (st .pre .1) (sym (c .before .before .find-name .ensures) ∙ c .enum-told2 .given .1) in
+    let g = listed-ground (st .args .names .now) (st .args .text .now) (c .before .before .before .before .before .before .before .before .before .loop .i) _ l (byte (c .before .before .before .before .before)) q _ _ (st .pre .1) (sym (c .before .before .find-name .ensures) ∙ c .enum-told .given .1) in
     record {
       within = c .before .before .before .before .run-end .ensures .1;
       sound = run-grounds (st .args .names .now) (st .args .text .now) (c .before .before .before .before .before .before .before .before .before .loop .i) _ l (byte (c .before .before .before .before .before)) q (g .0) (x .sound);
@@ -94,8 +94,8 @@ list-names-spec =
     part-find-name-end
     find-name-requires
     (λ c. search needs)
-    returns
     (λ c. search needs)
+    returns
     add-count
     loop-less
     loop-again

@@ -99,15 +99,15 @@ put-entries-spec =
     part-find-name-end
     find-name-requires
     (λ c. search needs)
+    (λ c. search needs)
+    same-length
+    returns
     add-put-node
     cast-put-node
     (λ c κs. search needs)
     put-node-requires
     loop-less
     loop-again
-    (λ c. search needs)
-    same-length
-    returns
     mul-tree
     slice-write-tree
     add-at
