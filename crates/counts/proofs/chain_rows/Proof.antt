@@ -82,8 +82,7 @@ chain-rows-spec =
     Inv-loop
     μ-loop
     loop-holds
-    (λ c. search needs)
-    (λ c. search needs)
+    (λ c. search needs) (λ c. search needs)
     element-copy-out-wide
     (λ c κs. search needs)
     add-wide

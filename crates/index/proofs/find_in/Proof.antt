@@ -58,19 +58,12 @@ find-in-spec =
     (tie.spec
     Inv-loop
     μ-loop
-    (λ c. search needs)
-    (λ c. search needs)
-    (λ c κs. search needs)
+    (λ c. search needs) (λ c. search needs) (λ c κs. search needs)
     loop-holds
-    (λ c. search needs)
-    (λ c. search needs)
-    (λ c. search needs)
-    (λ c κs. search needs)
+    (λ c. search needs) (λ c. search needs) (λ c. search needs) (λ c κs. search needs)
     row-is-requires
     returns
-    (λ c. search needs)
-    (λ c. search needs)
-    (λ c κs. search needs)
+    (λ c. search needs) (λ c. search needs) (λ c κs. search needs)
     loop-less
     loop-again
     returns-2)

@@ -69,9 +69,7 @@ check-names-spec =
     μ-loop
     loop-holds
     returns
-    (λ c κs. search needs)
-    (λ c. search needs)
-    (λ c. search needs)
+    (λ c κs. search needs) (λ c. search needs) (λ c. search needs)
     returns-2
     sub-name
     part-name-start
@@ -80,19 +78,11 @@ check-names-spec =
     find-in-requires
     (λ c. search needs)
     returns-3
-    (λ c. search needs)
-    (λ c. search needs)
-    (λ c. search needs)
-    (λ c. search needs)
-    (λ c. search needs)
-    (λ c. search needs)
-    (λ c. search needs)
-    (λ c. search needs)
-    (λ c. search needs)
+    (λ c. search needs) (λ c. search needs) (λ c. search needs) (λ c. search needs) (λ c. search needs) (λ c. search needs) (λ c. search needs)
+    (λ c. search needs) (λ c. search needs)
     add-at
     cast-starts
-    (λ c. search needs)
-    (λ c. search needs)
+    (λ c. search needs) (λ c. search needs)
     loop-less
     loop-again
     returns-4

@@ -29,7 +29,6 @@ name-end-spec =
     returns-2
     (λ c. search needs)
     returns-3
-    (λ c. search needs)
-    (λ c κs. search needs)
+    (λ c. search needs) (λ c κs. search needs)
     returns-4
     returns-5)

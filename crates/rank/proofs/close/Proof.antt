@@ -57,8 +57,7 @@ pub close-spec : {M : Type 1} → statement M
 close-spec =
     tie.close
     (tie.spec
-    (λ c κs. search needs)
-    (λ c. search needs)
+    (λ c κs. search needs) (λ c. search needs)
     mul-wide
     element-copy-out-wide
     (λ c κs. search needs)

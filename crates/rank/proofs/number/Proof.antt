@@ -26,11 +26,7 @@ number-spec =
     tie.close
     (tie.spec
     check-into-requires
-    (λ c. search needs)
-    (λ c. search needs)
-    (λ c κs. search needs)
-    (λ c. search needs)
-    (λ c. search needs)
+    (λ c. search needs) (λ c. search needs) (λ c κs. search needs) (λ c. search needs) (λ c. search needs)
     number-tree-requires
     returns
     returns-2

@@ -48,8 +48,7 @@ walk-rows-spec =
     Inv-loop
     μ-loop
     loop-holds
-    (λ c κs. search needs)
-    (λ c. search needs)
+    (λ c κs. search needs) (λ c. search needs)
     cast-offsets
     (λ c. search needs)
     element-write-offsets

@@ -20,8 +20,7 @@ pub after-name-spec : {M : Type 1} → statement M
 after-name-spec =
     tie.close
     (tie.spec
-    (λ c κs. search needs)
-    (λ c. search needs)
+    (λ c κs. search needs) (λ c. search needs)
     returns
     returns-2
     (λ c. search needs)

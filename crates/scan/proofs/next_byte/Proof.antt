@@ -23,13 +23,11 @@ pub next-byte-spec : {M : Type 1} → statement M
 next-byte-spec =
     tie.close
     (tie.spec
-    (λ c. search needs)
-    (λ c κs. search needs)
+    (λ c. search needs) (λ c κs. search needs)
     returns
     (λ c. search needs)
     after-name-requires
-    (λ c. search needs)
-    (λ c κs. search needs)
+    (λ c. search needs) (λ c κs. search needs)
     returns-2
     returns-3
     returns-4)

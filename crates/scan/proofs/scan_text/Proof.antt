@@ -42,9 +42,7 @@ scan-text-spec =
     loop-holds
     (λ c. search needs)
     next-byte-requires
-    (λ c. search needs)
-    (λ c. search needs)
-    (λ c. search needs)
+    (λ c. search needs) (λ c. search needs) (λ c. search needs)
     loop-again
     (λ c. search needs)
     returns

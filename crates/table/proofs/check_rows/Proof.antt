@@ -16,10 +16,8 @@ pub check-rows-spec : {M : Type 1} → statement M
 check-rows-spec =
     tie.close
     (tie.spec
-    (λ c κs. search needs)
-    (λ c κs. search needs)
+    (λ c κs. search needs) (λ c κs. search needs)
     first-duplicate-requires
-    (λ c. search needs)
-    (λ c. search needs)
+    (λ c. search needs) (λ c. search needs)
     returns
     returns-2)

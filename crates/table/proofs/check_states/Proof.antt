@@ -45,9 +45,7 @@ check-states-spec =
     (tie.spec
     chain-rows-requires
     count-states-requires
-    (λ c. search needs)
-    (λ c κs. search needs)
-    (λ c. search needs)
+    (λ c. search needs) (λ c κs. search needs) (λ c. search needs)
     sum-of-requires
     (λ c κs. search needs)
     returns

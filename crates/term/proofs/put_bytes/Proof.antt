@@ -57,8 +57,7 @@ put-bytes-spec =
     (λ c. search needs)
     add-text
     slice-write-text
-    (λ c. search needs)
-    (λ c. search needs)
+    (λ c. search needs) (λ c. search needs)
     loop-again
     add-result
     same-length

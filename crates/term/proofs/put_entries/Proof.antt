@@ -91,15 +91,12 @@ put-entries-spec =
     Inv-loop
     μ-loop
     loop-holds
-    (λ c. search needs)
-    (λ c κs. search needs)
-    (λ c κs. search needs)
+    (λ c. search needs) (λ c κs. search needs) (λ c κs. search needs)
     sub-find-name
     part-find-name-start
     part-find-name-end
     find-name-requires
-    (λ c. search needs)
-    (λ c. search needs)
+    (λ c. search needs) (λ c. search needs)
     same-length
     returns
     add-put-node
@@ -111,11 +108,9 @@ put-entries-spec =
     mul-tree
     slice-write-tree
     add-at
-    (λ c. search needs)
-    (λ c. search needs)
+    (λ c. search needs) (λ c. search needs)
     loop-again-2
-    (λ c. search needs)
-    (λ c. search needs)
+    (λ c. search needs) (λ c. search needs)
     loop-again-3
     same-length-2
     returns-2)

@@ -66,8 +66,7 @@ put-entry-text-spec =
     tie.close
     (tie.spec
     slice-write-text
-    (λ c. search needs)
-    (λ c. search needs)
+    (λ c. search needs) (λ c. search needs)
     returns
     returns-2
     (λ c κs. search needs)

@@ -29,9 +29,7 @@ put-node-spec =
     add-tree
     (λ c. search needs)
     slice-write-tree-2
-    (λ c. search needs)
-    (λ c. search needs)
+    (λ c. search needs) (λ c. search needs)
     returns
-    (λ c. search needs)
-    (λ c. search needs)
+    (λ c. search needs) (λ c. search needs)
     returns-2)

@@ -22,9 +22,7 @@ read-term-spec =
     tie.close
     (tie.spec
     check-names-requires
-    (λ c. search needs)
-    (λ c κs. search needs)
-    (λ c. search needs)
+    (λ c. search needs) (λ c κs. search needs) (λ c. search needs)
     read-named-requires
     returns
     (λ c. search needs)

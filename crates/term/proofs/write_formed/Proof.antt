@@ -18,10 +18,7 @@ pub write-formed-spec : {M : Type 1} → statement M
 write-formed-spec =
     tie.close
     (tie.spec
-    (λ c κs. search needs)
-    (λ c. search needs)
-    (λ c κs. search needs)
-    (λ c. search needs)
+    (λ c κs. search needs) (λ c. search needs) (λ c κs. search needs) (λ c. search needs)
     write-fitting-requires
     returns
     (λ c. search needs)

@@ -18,9 +18,7 @@ pub write-named-spec : {M : Type 1} → statement M
 write-named-spec =
     tie.close
     (tie.spec
-    (λ c κs. search needs)
-    (λ c. search needs)
-    (λ c. search needs)
+    (λ c κs. search needs) (λ c. search needs) (λ c. search needs)
     write-formed-requires
     returns
     (λ c. search needs)

@@ -22,9 +22,7 @@ write-term-spec =
     tie.close
     (tie.spec
     check-names-requires
-    (λ c. search needs)
-    (λ c κs. search needs)
-    (λ c. search needs)
+    (λ c. search needs) (λ c κs. search needs) (λ c. search needs)
     write-named-requires
     returns
     (λ c. search needs)

@@ -51,6 +51,5 @@ feed-all-spec =
     (λ c κs. search needs)
     loop-less
     loop-again
-    (λ c. search needs)
-    (λ c. search needs)
+    (λ c. search needs) (λ c. search needs)
     returns)

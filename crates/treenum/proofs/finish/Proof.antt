@@ -17,6 +17,4 @@ finish-spec =
     (λ c κs. search needs)
     slice-reshare-prefix-write-all
     slice-aggregate-write-all
-    (λ c κs. search needs)
-    (λ c. search needs)
-    (λ c. search needs))
+    (λ c κs. search needs) (λ c. search needs) (λ c. search needs))

@@ -57,7 +57,6 @@ pub +tree-length-spec : {M : Type 1} → statement M
     let x = c .before .before .before .before .before .before .pre .1 in
     (omega (arith, child-lower x g l _ (c .child-at .ensures), c .before .before .before .before .before .before .pre .0), child-valued x g l _ (c .child-at .ensures)))
     (λ c. omega (arith, measure-small (c .before .before .before .before .before .before .before .pre .1) (c .before .before .before .loop .inv) (c .before .before .loop-test .taken) _ (c .before .child-at .ensures) _ (c .tree-length .ensures)))
-    (λ c. search needs)
-    (λ c. search needs)
+    (λ c. search needs) (λ c. search needs)
     (λ c. measure-next (c .before .before .before .before .before .before .before .pre .1) (c .before .before .before .loop .inv) (c .before .before .loop-test .taken) _ (c .before .child-at .ensures) _ (c .tree-length .ensures))
     (λ c. measure-ends (c .before .before .before .before .before .pre .1) (c .before .loop .inv) (c .loop-test .left))

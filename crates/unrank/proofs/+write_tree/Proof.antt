@@ -68,8 +68,7 @@ pub +write-tree-spec : {M : Type 1} → statement M
     (λ c.
     let t = tree-next (c .before .before .before .before .before .before .before .before .before .before .before .pre .1 .0) (c .before .before .before .before .before .before .loop .inv) (c .before .before .before .before .before .loop-test .taken) _ (c .before .before .before .before .child-at .ensures) _ _ (c .before .before .write-tree .ensures) in
     omega (arith, rest-fits (t .writes), tree-kept t (c .before .before .before .before .before .before .before .before .before .before .before .args .out .now) _ refl, c .before .before .before .before .before .before .before .before .before .before .before .good .1 .1 .1 .1 .1 .1 .1 .1 .0 .1))
-    (λ c. search needs)
-    (λ c. search needs)
+    (λ c. search needs) (λ c. search needs)
     (λ c. tree-next (c .before .before .before .before .before .before .before .before .before .before .before .pre .1 .0) (c .before .before .before .before .before .before .loop .inv) (c .before .before .before .before .before .loop-test .taken) _ (c .before .before .before .before .child-at .ensures) _ _ (c .before .before .write-tree .ensures))
     (λ c. omega (arith, bar-fits (c .before .before .before .before .before .before .pre .1 .0) (c .before .loop .inv) (c .loop-test .left), tree-kept (c .before .loop .inv) (c .before .before .before .before .before .before .args .out .now) _ refl, c .before .before .before .before .before .before .good .1 .1 .1 .1 .1 .1 .1 .1 .0 .1))
     (λ c. bar-fits (c .before .before .before .before .before .before .pre .1 .0) (c .before .loop .inv) (c .loop-test .left))

@@ -18,11 +18,7 @@ pub child-at-spec : {M : Type 1} → statement M
 child-at-spec =
     tie.close
     (tie.spec
-    (λ c. search needs)
-    (λ c. search needs)
-    (λ c κs. search needs)
-    (λ c. search needs)
-    (λ c. search needs)
+    (λ c. search needs) (λ c. search needs) (λ c κs. search needs) (λ c. search needs) (λ c. search needs)
     div-below
     div-t13
     rem-t14

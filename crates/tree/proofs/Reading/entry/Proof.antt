@@ -40,9 +40,7 @@ entry-spec =
     (λ c κs. search needs)
     returns-3
     returns-4
-    (λ c. search needs)
-    (λ c. search needs)
+    (λ c. search needs) (λ c. search needs)
     returns-5
-    (λ c. search needs)
-    (λ c. search needs)
+    (λ c. search needs) (λ c. search needs)
     returns-6)
