@@ -70,7 +70,7 @@ module _ (limit : ℕ) (names text : List ℕ) (room : ℕ) where
   abbrev pub readTermWithin : Outcome
   readTermWithin = namesThen names readNamed
 
--- "Reading a term gives the count of tree entries written at the front", into a list of so many entries
+-- "Reading a term gives the count of tree entries written at the front", into a list with room for this many
 unfoldable pub readTermOutcome : (names text : List ℕ) (room : ℕ) → Outcome
 readTermOutcome names text room = readTermWithin 4096 names text room
 
@@ -94,7 +94,7 @@ module _ (names tree : List ℕ) (room : ℕ) where
   abbrev pub writeNamed : Outcome
   writeNamed = treeThen tree writeFormed
 
-  -- "Writing a term gives the count of bytes written at the front", into a list of so many bytes. "It refuses 17"
+  -- "Writing a term gives the count of bytes written at the front", into a list with room for this many. "It refuses 17"
   unfoldable pub writeTermOutcome : Outcome
   writeTermOutcome = namesThen names writeNamed
 

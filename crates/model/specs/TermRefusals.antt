@@ -15,7 +15,7 @@ use Rattle.model.specs.TermOperations.{AllListed, entriesOf, bytesOf, re
 use Rattle.model.specs.Place.{StopsAt}
 use Rattle.model.specs.Inverse.{Readable, Writable}
 
--- the bytes of the first lines, so many
+-- the bytes of the first k lines
 unfoldable pub firstLines : List ℕ → ℕ → List ℕ
 firstLines [] k = []
 firstLines (b ∷ bs) zero = []
