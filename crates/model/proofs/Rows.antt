@@ -181,8 +181,8 @@ rowAt-behind entries p s q xs rest e =
     let row = s ∷ q ∷ length xs ∷ (xs ++ rest) in
     rw (e, getD-append-seam p s (q ∷ length xs ∷ (xs ++ rest)) 0, getD-append-add p row 1 0, getD-append-add p row 2 0, drop-append-add p row 3, take-append-seam xs rest)
 
-pub countAt-behind : (entries p : List ℕ) (s q : ℕ) (xs rest : List ℕ) → entries ≡ p ++ (s ∷ q ∷ length xs ∷ (xs ++ rest)) → argCountAt entries (length p) ≡ length xs
-countAt-behind entries p s q xs rest e = rw (e, getD-append-add p (s ∷ q ∷ length xs ∷ (xs ++ rest)) 2 0)
+pub argCountAt-behind : (entries p : List ℕ) (s q : ℕ) (xs rest : List ℕ) → entries ≡ p ++ (s ∷ q ∷ length xs ∷ (xs ++ rest)) → argCountAt entries (length p) ≡ length xs
+argCountAt-behind entries p s q xs rest e = rw (e, getD-append-add p (s ∷ q ∷ length xs ∷ (xs ++ rest)) 2 0)
 
 -- rows written out, cut before row i
 pub pack-cut : (rs : List Row) (i : ℕ) → i < length rs
@@ -201,7 +201,7 @@ unfolding rowStart
 rowStart-pack rs zero l = ap length (sym pack-none)
 rowStart-pack rs (suc i) l =
     let n : argCountAt (pack rs) (length (pack (take i rs))) ≡ length (getD rs i noRow .args) =
-    countAt-behind (pack rs) (pack (take i rs)) _ _ (getD rs i noRow .args) (pack (drop (suc i) rs)) (pack-cut rs i l) in
+    argCountAt-behind (pack rs) (pack (take i rs)) _ _ (getD rs i noRow .args) (pack (drop (suc i) rs)) (pack-cut rs i l) in
     rw (rowStart-pack rs i (omega arith), n) (sym (pack-longer rs i l))
 
 pub rowNumbered-pack : (rs : List Row) (i : ℕ) → i < length rs → rowNumbered (pack rs) i ≡ getD rs i noRow

@@ -26,7 +26,7 @@ use Rattle.chains.specs.declared.Found.the-variants.{At, Nothing}
 use Rattle.chains.proofs.First.{first-is, first-none, apart}
 use Rattle.scan.specs.TextState.{placeOf, scanned}
 use Rattle.term.specs.Emit.{emitted, nameCount, entriesText}
-use Rattle.term.specs.Written.{Front, Listing, AllNamed, Gave, ReadTerm, WriteTerm}
+use Rattle.term.specs.Written.{Front, Listing, EntriesNamed, Gave, ReadTerm, WriteTerm}
 use Rattle.names.specs.NamesIndex.{NamesAnswer}
 use Rattle.names.specs.declared.NamesCheck.{NamesCheck}
 use Rattle.names.specs.declared.NamesCheck.the-variants.{Sound, Faulty}
@@ -150,7 +150,7 @@ module _ (names tree : List ℕ) (n room : ℕ) (c : n ≡ howManyNames names) w
   pub all-named : firstWith (λ i. ltb n (getD tree i 0)) (length tree) ≡ Nothing → writeFits names tree room ≡ writeFormed names tree room
   all-named e = sym (no-fault (length tree) (symbolGround names tree) (writeFits names tree room) (λ i l. ground-is i false (none-unnamed e i l)))
 
-  pub named-low : length tree ≤ 4096 → firstWith (λ i. ltb n (getD tree i 0)) (length tree) ≡ Nothing → AllNamed n tree
+  pub named-low : length tree ≤ 4096 → firstWith (λ i. ltb n (getD tree i 0)) (length tree) ≡ Nothing → EntriesNamed n tree
   named-low f e = record { few = f; named = λ i l. ltb-false n (getD tree i 0) (none-unnamed e i l) }
 
 -- 12 and 13

@@ -40,7 +40,7 @@ pub record NamesListed (names : List ℕ) (n : ℕ) (text : List ℕ) : Type 0 w
   pub none : (i : ℕ) → i < length text → nameGround names text i ≡ 0
 
 -- every entry is at most n
-pub record AllNamed (n : ℕ) (tree : List ℕ) : Type 0 where
+pub record EntriesNamed (n : ℕ) (tree : List ℕ) : Type 0 where
   pub few : length tree ≤ 4096
   pub named : (i : ℕ) → i < length tree → getD tree i 0 ≤ n
 

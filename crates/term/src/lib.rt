@@ -25,7 +25,7 @@ ghost use Rattle.model.specs.TermOperations.{readFits, readWhole, readNamed, wr
 ghost use Rattle.chains.specs.First.{firstWith};
 ghost use Rattle.names.specs.NamesIndex.{NamesIndexed, Lined};
 ghost use Rattle.term.specs.Emit.{nodeEntries, emitted, nameCount, entryText, markAfter, entriesText};
-ghost use Rattle.term.specs.Written.{Put, Front, Listing, NamesListed, AllNamed, ReadBy, WriteBy, ReadTerm, WriteTerm};
+ghost use Rattle.term.specs.Written.{Put, Front, Listing, NamesListed, EntriesNamed, ReadBy, WriteBy, ReadTerm, WriteTerm};
 
 // What looking up the names in a text finds: all are listed, and there are so many; or the first that is not listed begins at this place.
 pub enum Lookup {
@@ -253,7 +253,7 @@ fn entry_length(names: &[u8], starts: &[u16; 256], n: usize, mark: u8, e: u16) -
 // How many bytes the tree's term has.
 fn text_length(names: &[u8], starts: &[u16; 256], n: usize, tree: &[u16]) -> usize
     requires { ⌜ Lined (now names) (now starts) n ⌝ }
-    requires { ⌜ AllNamed n (now tree) ⌝ }
+    requires { ⌜ EntriesNamed n (now tree) ⌝ }
     ensures { λ r. ⌜ r ≡ length (entriesText (now (names .entry)) 0 (now (tree .entry))) ⌝ }
 {
     let mut sum: usize = 0;
@@ -314,7 +314,7 @@ fn put_entry_text(
 // Puts the tree's term at the front of the list.
 fn put_text(names: &[u8], starts: &[u16; 256], n: usize, tree: &[u16], text: &mut [u8])
     requires { ⌜ Lined (now names) (now starts) n ⌝ }
-    requires { ⌜ AllNamed n (now tree) ⌝ }
+    requires { ⌜ EntriesNamed n (now tree) ⌝ }
     requires { ⌜ length (entriesText (now names) 0 (now tree)) ≤ length (now text) ⌝ }
     ensures { λ r. ⌜ Front (now (text .entry)) (now (text .exit)) (entriesText (now (names .entry)) 0 (now (tree .entry))) ⌝ }
 {
@@ -338,7 +338,7 @@ fn write_fitting(
     text: &mut [u8],
 ) -> Answer
     requires { ⌜ Lined (now names) (now starts) n ⌝ }
-    requires { ⌜ AllNamed n (now tree) ⌝ }
+    requires { ⌜ EntriesNamed n (now tree) ⌝ }
     requires { ⌜ WellFormed (now tree) ⌝ }
     ensures { λ r. ⌜ WriteBy writeFits (now (names .entry)) (now (tree .entry)) (now (text .entry)) (now (text .exit)) r ⌝ }
 {

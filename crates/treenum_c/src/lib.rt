@@ -63,7 +63,9 @@ pub extern "C" fn treenum_write(
     tree: &mut [u16],
     value: &mut u64,
 ) -> u32
-    ensures { λ r. ⌜ Left (writeOutcome states (now (rows .entry)) (now (accepting .entry)) number (length (now (tree .entry)))) (writeList states (now (rows .entry)) (now (accepting .entry)) number (now (tree .entry))) r (now (value .exit)) (now (tree .exit)) ⌝ }
+    ensures { λ r. ⌜ Left (writeOutcome states (now (rows .entry)) (now (accepting .entry)) number (length (now (tree .entry))))
+        (writeList states (now (rows .entry)) (now (accepting .entry)) number (now (tree .entry)))
+        r (now (value .exit)) (now (tree .exit)) ⌝ }
 {
     give(unrank::write(states, rows, accepting, number, tree), value)
 }
@@ -77,7 +79,9 @@ pub extern "C" fn treenum_read_term(
     tree: &mut [u16],
     value: &mut u64,
 ) -> u32
-    ensures { λ r. ⌜ Left (readTermOutcome (now (names .entry)) (now (text .entry)) (length (now (tree .entry)))) (readTermList (now (names .entry)) (now (text .entry)) (now (tree .entry))) r (now (value .exit)) (now (tree .exit)) ⌝ }
+    ensures { λ r. ⌜ Left (readTermOutcome (now (names .entry)) (now (text .entry)) (length (now (tree .entry))))
+        (readTermList (now (names .entry)) (now (text .entry)) (now (tree .entry)))
+        r (now (value .exit)) (now (tree .exit)) ⌝ }
 {
     give(term::read_term(names, text, tree), value)
 }
@@ -91,7 +95,9 @@ pub extern "C" fn treenum_write_term(
     text: &mut [u8],
     value: &mut u64,
 ) -> u32
-    ensures { λ r. ⌜ Left (writeTermOutcome (now (names .entry)) (now (tree .entry)) (length (now (text .entry)))) (writeTermList (now (names .entry)) (now (tree .entry)) (now (text .entry))) r (now (value .exit)) (now (text .exit)) ⌝ }
+    ensures { λ r. ⌜ Left (writeTermOutcome (now (names .entry)) (now (tree .entry)) (length (now (text .entry))))
+        (writeTermList (now (names .entry)) (now (tree .entry)) (now (text .entry)))
+        r (now (value .exit)) (now (text .exit)) ⌝ }
 {
     give(term::write_term(names, tree, text), value)
 }
