@@ -1,8 +1,8 @@
 -- Lines at the edges of document 01's sentences, with the paper's table, by computation. Assumes nothing.
-use Prim.Native.Nat.{ℕ, zero, suc}
+use Prim.Native.Nat.{ℕ}
 use Prim.Native.String.{String}
 use mathlib.Core.Path.{_≡_, refl}
-use mathlib.Core.List.{List, [], _∷_, _++_, map}
+use mathlib.Core.List.{List, [], _∷_, _++_, map, flatten}
 use Rattle.model.specs.Choice.{refuseOn, firstFaulty, anyBelow}
 use Rattle.model.specs.Table.{rowStart, howMany, howManyRows, firstRows, rowsOf, sameList, rowIs}
 use Rattle.model.specs.Tree.{serialForest, serial}
@@ -17,13 +17,9 @@ use Rattle.model.specs.TermOperations.{symbolsOf, namesOf, entriesOf, bytesOf, 
 use Rattle.model.specs.Number.{reachesNone, stuckThen, acceptedThen, numberTree, numberOutcome}
 use Rattle.model.specs.Write.{treeEntries, writeTree, entriesFor, writeOutcome}
 use Rattle.model.specs.Text.{ascii}
-use Rattle.model.specs.Paper.{paperStates, paperRowList, oneList, paperRows, paperAccepting, paperNames}
+use Rattle.model.specs.Paper.{paperStates, paperRowList, paperRows, paperAccepting, paperNames}
+use Rattle.model.proofs.TermExamples.{times}
 use Rattle.line.specs.Lines.{allDigits, isNumber, numberAfter, numberIn, decimalBy, decimal, answerNumber, answerTerm, answerTo, answersTo, outputFor}
-
--- a text so many times
-unfoldable many : ℕ → String → List ℕ
-many zero text = []
-many (suc n) text = ascii text ++ many n text
 
 -- an input, and what is printed; a line with byte 10 after it, and the line that is printed
 data Sample : Type 0 where
@@ -72,11 +68,11 @@ edges =
     ∷ line "a(a,d)" "refused 20 4"
     ∷ line "b" "refused 14 1"
     -- "a term line above 4,096 bytes is 18 at 0": 4,096 and 4,097 bytes, and 4,097 digits
-    ∷ whole (many 4096 "a") (ascii "refused 19 24\n")
-    ∷ whole (many 4097 "a") (ascii "refused 18 0\n")
-    ∷ whole (many 4097 "0") (ascii "a(a,a)\n")
+    ∷ whole (times 4096 (ascii "a")) (ascii "refused 19 24\n")
+    ∷ whole (times 4097 (ascii "a")) (ascii "refused 18 0\n")
+    ∷ whole (times 4097 (ascii "0")) (ascii "a(a,a)\n")
     ∷ []
 
 edge-samples : map given edges ≡ map due edges
-unfolding refuseOn firstFaulty anyBelow rowStart howMany howManyRows firstRows rowsOf sameList rowIs serialForest serial rowWith statesOf entryOf sum product weight stateCounts grow count total largest rowLongest stateLongest longest horner earlierRows rowValue valuesOf numberOf findBy childrenFrom treeIn treeOf allBelow cut tooMany outOfRange notBelow repeated rowGround acceptingGround stateGround checkWithin checkOutcome isLetter isNameByte allNameBytes isName sameName linesOf nameOf lineWith symbolOf isListed lineGround namesThen openAfter entryGround endsTooSoon formThen treeThen levelsOf treeFrom textOfTerms textOf step scan termThen run nameBegins before seenFrom termFrom symbolsOf namesOf entriesOf bytesOf nameGround readTermOutcome symbolGround writeTermOutcome reachesNone stuckThen acceptedThen numberTree numberOutcome treeEntries writeTree entriesFor writeOutcome ascii paperRowList oneList paperRows paperNames allDigits isNumber numberAfter numberIn decimalBy decimal answerNumber answerTerm answerTo answersTo outputFor many
+unfolding refuseOn firstFaulty anyBelow rowStart howMany howManyRows firstRows rowsOf sameList rowIs serialForest serial rowWith statesOf entryOf sum product weight stateCounts grow count total largest rowLongest stateLongest longest horner earlierRows rowValue valuesOf numberOf findBy childrenFrom treeIn treeOf allBelow cut tooMany outOfRange notBelow repeated rowGround acceptingGround stateGround checkWithin checkOutcome isLetter isNameByte allNameBytes isName sameName linesOf nameOf lineWith symbolOf isListed lineGround namesThen openAfter entryGround endsTooSoon formThen treeThen levelsOf treeFrom textOfTerms textOf step scan termThen run nameBegins before seenFrom termFrom symbolsOf namesOf entriesOf bytesOf nameGround readTermOutcome symbolGround writeTermOutcome reachesNone stuckThen acceptedThen numberTree numberOutcome treeEntries writeTree entriesFor writeOutcome ascii paperRowList flatten paperRows paperNames allDigits isNumber numberAfter numberIn decimalBy decimal answerNumber answerTerm answerTo answersTo outputFor times
 edge-samples = refl

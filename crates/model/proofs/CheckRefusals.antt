@@ -19,7 +19,7 @@ use Rattle.model.specs.Reach.{Reaches, Accepted}
 use Rattle.model.specs.Check.{allBelow, isState, cut, tooMany, outOfRange, notBelow, repeated, rowGround, acceptingGround, stateGround, checkWithin, checkOutcome, countLimit}
 use Rattle.model.specs.Limits.{ReachedBy, WithinLimits, BeyondLimits, nine, ten}
 use Rattle.model.specs.CheckRefusals.{RowBegins, RowCut, RowTooMany, SomeArgument, RowOutOfRange, RowNotBelow, RowRepeated, RowRefused, row2, row3, row4, row5, row6, FaultlessRow, FaultlessRows, EntryFaulty, FaultlessEntries, CheckRefused, check1, check2to6, check7, check9to10, check11, CheckRefuses, CheckGives}
-use Rattle.model.proofs.Choice.{if-no, if-yes, if-zero, refused-number, refused-place, or-true, or-left, or-right, not-both, is-false, no-fault, fault-refused, any-true, any-some, if-refused, result-only, Decided, clear, faulty, decided}
+use Rattle.model.proofs.Choice.{if-no, if-yes, if-zero, refused-number, refused-place, or-true, or-left, or-right, not-both, is-false, no-fault, fault-refused, any-true, any-some, if-refused, result-only, Decided, clear, faulty, decided, ground-alone}
 use Rattle.model.proofs.Good.{Good}
 use Rattle.model.proofs.Exactly.{exactly-once}
 use Rattle.model.proofs.Longest.{longest-none, longest-tree}
@@ -476,9 +476,7 @@ check-gives states rows accepting n = (there, back)
 
 -- at most one ground is the first: its number and its place are the only ones
 pub ground-once : (states : ℕ) (rows accepting : List ℕ) (m p n q : ℕ) → CheckRefused states rows accepting m p → CheckRefused states rows accepting n q → (m ≡ n) × (p ≡ q)
-ground-once states rows accepting m p n q g h =
-    let e = sym (ground-refuses states rows accepting m p g) ∙ ground-refuses states rows accepting n q h in
-    (refused-number e, refused-place e)
+ground-once states rows accepting = ground-alone (CheckRefused states rows accepting) (checkOutcome states rows accepting) (ground-refuses states rows accepting)
 
 -- "a list longer than the count of states is 8": after 7 there is none
 pub never-eight : (states : ℕ) (rows accepting : List ℕ) (place : ℕ) → checkOutcome states rows accepting ≡ refused 8 place → ⊥

@@ -49,6 +49,10 @@ pub refused-only : (o : Outcome) (k p : ℕ) → ((t : ℕ) → o ≡ result t �
 refused-only (result t) k p h f = absurd (h t refl)
 refused-only (refused m q) k p h f = let e = f m q refl in rw (e .0, e .1)
 
+-- grounds that each give their refusal: there is one at most
+pub ground-alone : (R : ℕ → ℕ → Type 0) (o : Outcome) → ((k p : ℕ) → R k p → o ≡ refused k p) → (k p m q : ℕ) → R k p → R m q → (k ≡ m) × (p ≡ q)
+ground-alone R o h k p m q f g = let e = sym (h k p f) ∙ h m q g in (refused-number e, refused-place e)
+
 -- two places, neither before the other
 pub one-place : (p q : ℕ) → (p < q → ⊥) → (q < p → ⊥) → p ≡ q
 one-place p q f g = go (ltb p q) (ltb q p) (ltb-true p q) (ltb-true q p) (ltb-false p q) (ltb-false q p)

@@ -5,7 +5,7 @@ use mathlib.Core.Path.{_≡_, refl, ap, sym, _∙_}
 use mathlib.Core.Bool.{not}
 use lib.ListN.{length, getD, take, replicate}
 use lib.Dec.{ltb}
-use mathlib.Core.List.{List, [], _∷_, map}
+use mathlib.Core.List.{List, [], _∷_, map, flatten}
 use Rattle.model.specs.Answers.{Outcome, result, refused}
 use Rattle.model.specs.Choice.{if_then_else_, refuseOn, firstFaulty, anyBelow}
 use Rattle.model.specs.Table.{Row, Table, noRow, pack, tableOf, rowAt, howMany, howManyRows, firstRows, rowsOf, sameList, rowIs}
@@ -21,7 +21,7 @@ use Rattle.model.specs.TermOperations.{symbolsOf, entriesOf, nameGround,
 use Rattle.model.specs.Number.{reachesNone, stuckThen, acceptedThen, numberTree, numberOutcome}
 use Rattle.model.specs.Write.{writeTree, entriesFor, writeOutcome}
 use Rattle.model.specs.Text.{ascii}
-use Rattle.model.specs.Paper.{paperStates, paperRowList, oneList, paperRows, paperAccepting, paperNames}
+use Rattle.model.specs.Paper.{paperStates, paperRowList, paperRows, paperAccepting, paperNames}
 use Rattle.model.proofs.Counting.{map-agree}
 use Rattle.model.proofs.Paper.{paper-checks}
 use Rattle.model.proofs.Rows.{rowsOf-pack}
@@ -117,7 +117,7 @@ abbrev plainTable : Table
 plainTable = record { states = paperStates; rows = plainRows; accepting = paperAccepting }
 
 packed : pack plainRows ≡ paperRows
-unfolding plainRows paperRowList oneList paperRows pack
+unfolding plainRows paperRowList flatten paperRows pack
 packed = refl
 
 table-is : paperTable ≡ plainTable

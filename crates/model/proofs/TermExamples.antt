@@ -179,12 +179,12 @@ term-examples = refl
 
 -- ---- limits from both sides, with a later ground that holds too
 
--- a text so many times
-unfoldable times : ℕ → List ℕ → List ℕ
+-- a text n times
+unfoldable pub times : ℕ → List ℕ → List ℕ
 times zero text = []
 times (suc n) text = text ++ times n text
 
--- so many names of two letters
+-- n names of two letters
 unfoldable manyNames : ℕ → List ℕ
 manyNames zero = []
 manyNames (suc n) = manyNames n ++ small (n / 26) ∷ small (n % 26) ∷ ascii "\n"

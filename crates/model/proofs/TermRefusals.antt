@@ -19,7 +19,7 @@ use Rattle.model.specs.Term.{Terms, none, term, alone, textOfTerms, text
 use Rattle.model.specs.TermOperations.{AllListed, entriesOf, bytesOf, nameGround, readFits, readWhole, readNamed, readTermOutcome, symbolGround, writeFits, writeFormed, writeTermOutcome}
 use Rattle.model.specs.Place.{CanGoOn, StopsAt}
 use Rattle.model.specs.TermRefusals.{firstLines, FaultyLine, Placed, namesFrom, FirstUnlisted, FirstUnnamed, ReadRefused, read17, read18, read19, read20, read21, read22, WriteRefused, write17, write12, write13, write23, write24, ReadRefuses, WriteRefuses, ReadRefusedOnce, WriteRefusedOnce, ReadElse, WriteElse}
-use Rattle.model.proofs.Choice.{if-no, if-zero, not-both, no-fault, no-fault-back, refused-number, refused-place, Decided, clear, faulty, decided, if-refused, result-only, refused-only, one-place, if-place, if-some}
+use Rattle.model.proofs.Choice.{if-no, if-zero, not-both, no-fault, no-fault-back, refused-number, refused-place, Decided, clear, faulty, decided, if-refused, result-only, refused-only, one-place, if-place, if-some, ground-alone}
 use Rattle.model.proofs.Bytes.{open-no-byte, close-no-byte, comma-no-byte, end-no-byte, byte-first, byte-others, name-parts, name-bytes, NoByte, run-all}
 use Rattle.model.proofs.Entries.{form-place, tree-then-taken, tree-then-back}
 use Rattle.model.proofs.Scan.{bracketed, following, text-after, whole-term, scan-place, term-or-taken, term-or-back}
@@ -531,9 +531,7 @@ pub read-refuses : ReadRefuses
 read-refuses names text room k p = (read-ground names text room k p, ground-read names text room k p)
 
 pub read-refused-once : ReadRefusedOnce
-read-refused-once names text room k p m q f g =
-    let e = sym (ground-read names text room k p f) ∙ ground-read names text room m q g in
-    (refused-number e, refused-place e)
+read-refused-once names text room = ground-alone (ReadRefused names text room) (readTermOutcome names text room) (ground-read names text room)
 
 pub read-else : ReadElse
 read-else names text room h =
@@ -598,9 +596,7 @@ pub write-refuses : WriteRefuses
 write-refuses names tree room k p = (write-ground names tree room k p, ground-write names tree room k p)
 
 pub write-refused-once : WriteRefusedOnce
-write-refused-once names tree room k p m q f g =
-    let e = sym (ground-write names tree room k p f) ∙ ground-write names tree room m q g in
-    (refused-number e, refused-place e)
+write-refused-once names tree room = ground-alone (WriteRefused names tree room) (writeTermOutcome names tree room) (ground-write names tree room)
 
 pub write-else : WriteElse
 write-else names tree room h =

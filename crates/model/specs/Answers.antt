@@ -79,8 +79,8 @@ abbrev pub lentAfter : Outcome → (written old : List ℕ) → List ℕ
 lentAfter (result n) written old = written ++ drop (length written) old
 lentAfter (refused number place) written old = old
 
--- what a lent list holds after an operation that writes at the front of it, by its answer and without `lentAfter` (for terms the laws
--- `read-lent` and `write-lent`)
+-- what a lent list holds after an operation that writes at the front of it, by its answer and without `lentAfter` (the laws `read-lent`,
+-- `write-lent` and `tree-lent`)
 pub record Lent (answer : Outcome) (written old after : List ℕ) : Type 0 where
   -- "A refusal writes to no lent list."
   pub kept : (number place : ℕ) → answer ≡ refused number place → after ≡ old

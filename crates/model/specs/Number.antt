@@ -9,8 +9,7 @@ use Rattle.model.specs.Choice.{if_then_else_}
 use Rattle.model.specs.Table.{Table, tableOf}
 use Rattle.model.specs.Tree.{Forest, Tree, empty, node, only, serialForest, serial}
 use Rattle.model.specs.Reach.{targetOf, rowOf, stateOf, entryOf}
-use Rattle.model.specs.Count.{count}
-use Rattle.model.specs.Value.{numberOf}
+use Rattle.model.specs.Value.{treeNumber}
 use Rattle.model.specs.Check.{isState, checkOutcome}
 use Rattle.model.specs.Entries.{treeThen, treeFrom}
 
@@ -44,7 +43,7 @@ unfoldable pub numberTree : (checked : Outcome) → Table → (tree : List ℕ) 
 numberTree checked T tree =
     let t = treeFrom tree in
     -- "It first refuses as the check does. More than 4,096 entries is 12.", then 13, then 14
-    checkedThen checked (λ total. treeThen tree (acceptedThen T t (result (numberOf T (count T) t))))
+    checkedThen checked (λ total. treeThen tree (acceptedThen T t (result (treeNumber T t))))
 
 -- what numbering a tree answers, for any count of states and any three lists: the table is lent with its rows in one list
 unfoldable pub numberOutcome : (states : ℕ) (rows accepting tree : List ℕ) → Outcome

@@ -1,6 +1,6 @@
 -- "The paper's own table". Assumes nothing: these are definitions.
 use Prim.Native.Nat.{ℕ}
-use mathlib.Core.List.{List, [], _∷_, _++_}
+use mathlib.Core.List.{List, [], _∷_, flatten}
 use Rattle.model.specs.Text.{ascii}
 
 -- "there are five states"
@@ -22,12 +22,8 @@ paperRowList =
     ∷ []
 
 -- "The rows, one after another in one list."
-unfoldable pub oneList : List (List ℕ) → List ℕ
-oneList [] = []
-oneList (row ∷ rows) = row ++ oneList rows
-
 unfoldable pub paperRows : List ℕ
-paperRows = oneList paperRowList
+paperRows = flatten paperRowList
 
 -- "The accepting list is 2, 4."
 abbrev pub paperAccepting : List ℕ

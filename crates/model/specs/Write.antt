@@ -18,6 +18,10 @@ use Rattle.model.specs.Number.{checkedThen}
 unfoldable pub treeEntries : Table → (number : ℕ) → List ℕ
 treeEntries T number = serial (treeOf T (count T) number)
 
+-- "A lent list shorter than the tree is 16, the place being the entries needed."
+abbrev pub treeFits : (room needed : ℕ) → Outcome
+treeFits room needed = if ltb room needed then refused 16 needed else result needed
+
 -- what writing the tree of a number answers for a table, where this is what the table's check answers, into a list with
 -- room for this many entries
 unfoldable pub writeTree : (checked : Outcome) → Table → (number room : ℕ) → Outcome
@@ -27,8 +31,7 @@ writeTree checked T number room =
     checkedThen checked (λ total.
     -- "A number not below the total is 15."
     if not (ltb number total) then refused 15 0 else
-    -- "A lent list shorter than the tree is 16, the place being the entries needed."
-    if ltb room needed then refused 16 needed else result needed)
+    treeFits room needed)
 
 -- what the lent list holds afterwards
 unfoldable pub writeTreeList : (checked : Outcome) → Table → (number : ℕ) (tree : List ℕ) → List ℕ

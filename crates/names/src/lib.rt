@@ -9,7 +9,7 @@ ghost use Rattle.model.specs.Term.{run};
 ghost use Rattle.chains.specs.Chains.{Clear};
 ghost use Rattle.names.specs.NamesIndex.{nameEnd, hashOf, nameFound, Lined, NamesIndexed, Started, NamesAnswer};
 
-// What checking a names list finds: it keeps to the rules and has so many names, or this line is the first faulty one.
+// What checking a names list finds: it keeps to the rules, and how many names it has, or the first faulty line.
 pub enum NamesCheck {
     Sound(usize),
     Faulty(usize),

@@ -97,7 +97,7 @@ fn open_node(opens: &mut [u16; 2048], begins: &mut [u16; 2048], d: usize, symbol
 }
 
 // Stores the state and the value of a closed node in place of its children's, which stand from b on.
-fn put_node(waiting: &mut [u16; 2048], values: &mut [u64; 2048], b: usize, q: u16, v: u64)
+fn store_closed(waiting: &mut [u16; 2048], values: &mut [u64; 2048], b: usize, q: u16, v: u64)
     requires { ⌜ b < 2048 ⌝ }
     ensures { λ r. ⌜ (now (waiting .exit) ≡ set (now (waiting .entry)) b q) × (now (values .exit) ≡ set (now (values .entry)) b v) ⌝ }
 {
@@ -154,7 +154,7 @@ fn number_tree(
                     &values[b..w],
                 ) {
                     Node::Reaches(q, v) => {
-                        put_node(&mut waiting, &mut values, b, q, v);
+                        store_closed(&mut waiting, &mut values, b, q, v);
                         w = b + 1;
                         s = t;
                         i += 1;

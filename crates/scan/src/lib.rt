@@ -12,7 +12,7 @@ ghost use Rattle.scan.specs.TextState.{seen, seenStep, depthOf, placeOf,
 pub enum TextState {
     // a name must begin here
     Due(usize),
-    // so many bytes of a name have been read
+    // the second number is how many bytes of a name have been read
     InName(usize, usize),
     // the last byte was `)`
     Closed(usize),
@@ -40,7 +40,7 @@ fn after_term(depth: usize, b: u8) -> TextStep
     TextStep::Stops
 }
 
-// Reads the byte after so many bytes of a name.
+// Reads the byte after the first bytes of a name.
 fn after_name(depth: usize, bytes: usize, b: u8) -> TextStep
     requires { ⌜ depth < 65536 ⌝ }
     ensures { λ r. ⌜ seenStep r ≡ step (inName depth bytes) b ⌝ }

@@ -27,7 +27,7 @@ ghost use Rattle.names.specs.NamesIndex.{NamesIndexed, Lined};
 ghost use Rattle.term.specs.Emit.{nodeEntries, emitted, nameCount, entryText, markAfter, entriesText};
 ghost use Rattle.term.specs.Written.{Put, Front, Listing, NamesListed, EntriesNamed, ReadBy, WriteBy, ReadTerm, WriteTerm};
 
-// What looking up the names in a text finds: all are listed, and there are so many; or the first that is not listed begins at this place.
+// What looking up the names in a text finds: all are listed, and how many there are; or where the first that is not listed begins.
 pub enum Lookup {
     All(usize),
     Unlisted(usize),

@@ -11,7 +11,7 @@ use Rattle.model.specs.Answers.{Outcome, result, refused, refusedBy, outcome, l
 use Rattle.model.specs.Choice.{if_then_else_}
 use Rattle.model.specs.Check.{checkOutcome}
 use Rattle.model.specs.Number.{checkedThen}
-use Rattle.model.specs.Write.{writeTree, writeTreeList, entriesFor, writeOutcome, writeList}
+use Rattle.model.specs.Write.{treeFits, writeTree, writeTreeList, entriesFor, writeOutcome, writeList}
 use Rattle.model.specs.declared.Answer.{Answer}
 use Rattle.model.specs.declared.Answer.the-variants.{Refused}
 use Rattle.model.specs.declared.Refusal.{Refusal}
@@ -20,14 +20,14 @@ use Rattle.table.specs.declared.Checked.the-variants.{Sound, Refuses}
 use Rattle.table.specs.Checked.{told, CheckAnswer}
 use Rattle.unrank.specs.declared.Spot.{Spot}
 use Rattle.unrank.specs.Trees.{valueEntries, Wrote, spotOf}
-use Rattle.unrank.specs.Written.{numberEntries, fitsIn, WroteNumber, WroteTree}
+use Rattle.unrank.specs.Written.{numberEntries, WroteNumber, WroteTree}
 use Rattle.unrank.proofs.UnrankReady.{checks, ready}
 use Rattle.unrank.proofs.Agree.{entries-same}
 
 -- ---- a number below the total
 
 abbrev gives : (written old : List ℕ) → Outcome
-gives written old = fitsIn (length old) (length written)
+gives written old = treeFits (length old) (length written)
 
 module _ (rows accepting counts : List ℕ) (number : ℕ) (s : Spot) (e : s ≡ spotOf accepting counts number) where
   spot-entries : valueEntries rows counts (s .state) (s .value) ≡ numberEntries rows accepting counts number

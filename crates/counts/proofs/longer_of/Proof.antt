@@ -3,7 +3,6 @@ use Prim.Native.Nat.{_<_, _≤_}
 use native.Mathlib.Nat.{pos-of-ne-zero, max-zero}
 use native.Mathlib.Omega.{arith}
 use borrow.Author.Tests.{lt-ltb, le-ltb}
-use borrow.Author.Needs.{needs}
 use Rattle.counts.proofs.longer_of.Statement.{statement}
 use Rattle.counts.proofs.longer_of.Tie as tie
 

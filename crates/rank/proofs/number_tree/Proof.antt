@@ -91,14 +91,14 @@ part-close-end-2 c = omega (arith, room (c .before .before .before), c .before .
 close-requires : tie.Need-close-requires Inv-loop μ-loop
 close-requires c κs = (c .before .before .before .before .before .before .before .before .before .before .before .before .before .before .before .before .pre .0 .laid, (c .before .before .before .before .before .before .before .before .before .before .before .before .before .before .before .before .pre .0 .index, close-fits (c .before .before .before .before .before .before .before .before .before .before .before .loop .inv) (c .before .before .before .before .before .before .before .before .before .before .loop-test .taken) _ (closes-step (c .before .before .before .before .before)) _ (c .before .before .before .before .wide .ensures) (c .before .before .before .before .before .before .before .before .before .before .before .before .before .before .before .before .pre .0)))
 
-put-node-requires : tie.Need-put-node-requires Inv-loop μ-loop
-put-node-requires c κs = room (c .before .before .before .before .before .before .before .before .before .before) .1
+store-closed-requires : tie.Need-store-closed-requires Inv-loop μ-loop
+store-closed-requires c κs = room (c .before .before .before .before .before .before .before .before .before .before) .1
 
 add-w : tie.Need-add-w Inv-loop μ-loop
 add-w c = omega (arith, room (c .before .before .before .before .before .before .before .before .before .before .before))
 
 loop-again-2 : tie.Need-loop-again-2 Inv-loop μ-loop
-loop-again-2 c = node-closes (c .before .before .before .before .before .before .before .before .before .before .before .before .before .before .before .before .before .before .loop .inv) (c .before .before .before .before .before .before .before .before .before .before .before .before .before .before .before .before .before .loop-test .taken) _ (closes-step (c .before .before .before .before .before .before .before .before .before .before .before .before)) _ (c .before .before .before .before .before .before .before .before .before .before .before .wide .ensures) (c .before .before .before .before .before .before .before .before .before .before .before .before .before .before .before .before .before .before .before .before .before .before .before .pre .0) _ _ (sym (c .before .before .before .before .before .before .close .ensures) ∙ c .before .before .before .before .q .given .1) _ _ (c .put-node .ensures)
+loop-again-2 c = node-closes (c .before .before .before .before .before .before .before .before .before .before .before .before .before .before .before .before .before .before .loop .inv) (c .before .before .before .before .before .before .before .before .before .before .before .before .before .before .before .before .before .loop-test .taken) _ (closes-step (c .before .before .before .before .before .before .before .before .before .before .before .before)) _ (c .before .before .before .before .before .before .before .before .before .before .before .wide .ensures) (c .before .before .before .before .before .before .before .before .before .before .before .before .before .before .before .before .before .before .before .before .before .before .before .pre .0) _ _ (sym (c .before .before .before .before .before .before .close .ensures) ∙ c .before .before .before .before .q .given .1) _ _ (c .store-closed .ensures)
 
 returns : tie.Need-returns Inv-loop μ-loop
 returns c = c .refused-answer .ensures ∙ node-sticks (c .before .before .before .before .before .before .before .before .before .before .before .before .before .before .before .loop .inv) (c .before .before .before .before .before .before .before .before .before .before .before .before .before .before .loop-test .taken) _ (closes-step (c .before .before .before .before .before .before .before .before .before)) _ (c .before .before .before .before .before .before .before .before .wide .ensures) (sym (c .before .before .before .close .ensures) ∙ c .before .enum-told .given .1)
@@ -147,7 +147,7 @@ number-tree-spec =
     part-close-end-2
     close-requires
     (λ c. search needs)
-    put-node-requires
+    store-closed-requires
     add-w
     (λ c. search needs) (λ c. search needs)
     loop-again-2
