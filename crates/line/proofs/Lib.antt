@@ -10,3 +10,4 @@ pub mod Walking
 pub mod Run
 pub mod OneLine
 pub mod Samples
+pub mod Either

@@ -4,13 +4,13 @@ use Prim.Native.String.{String}
 use mathlib.Core.Path.{_≡_, refl}
 use mathlib.Core.List.{List, [], _∷_, _++_, map, flatten}
 use Rattle.model.specs.Choice.{refuseOn, firstFaulty, anyBelow}
-use Rattle.model.specs.Table.{rowStart, howMany, howManyRows, firstRows, rowsOf, sameList, rowIs}
+use Rattle.model.specs.Table.{rowStart, howMany, howManyRows, firstRows, rowsOf, sameBy, rowIs}
 use Rattle.model.specs.Tree.{serialForest, serial}
 use Rattle.model.specs.Reach.{rowWith, statesOf, entryOf}
 use Rattle.model.specs.Count.{sum, product, weight, stateCounts, grow, count, total, largest, rowLongest, stateLongest, longest}
 use Rattle.model.specs.Value.{horner, earlierRows, rowValue, valuesOf, numberOf, findBy, childrenFrom, treeIn, treeOf}
 use Rattle.model.specs.Check.{allBelow, cut, tooMany, outOfRange, notBelow, repeated, rowGround, acceptingGround, stateGround, checkWithin, checkOutcome}
-use Rattle.model.specs.Names.{isLetter, isNameByte, allNameBytes, isName, sameName, linesOf, nameOf, lineWith, symbolOf, isListed, lineGround, namesThen}
+use Rattle.model.specs.Names.{isLetter, isNameByte, allNameBytes, isName, lower, alike, linesOf, nameOf, lineWith, symbolOf, isListed, lineGround, namesThen}
 use Rattle.model.specs.Entries.{openAfter, entryGround, endsTooSoon, formThen, treeThen, levelsOf, treeFrom}
 use Rattle.model.specs.Term.{textOfTerms, textOf, step, scan, termThen, run, nameBegins, before, seenFrom, termFrom}
 use Rattle.model.specs.TermOperations.{symbolsOf, namesOf, entriesOf, bytesOf, nameGround, readTermOutcome, symbolGround, writeTermOutcome}
@@ -63,7 +63,11 @@ edges =
     ∷ line "a(a, a)" "refused 19 4"
     -- "Symbol 1 is `a`, symbol 2 is `b`"
     ∷ line "d" "refused 20 0"
-    ∷ line "A" "refused 20 0"
+    ∷ line "A(a,a)" "0"
+    ∷ line "B(A,B)" "1"
+    ∷ line "B" "refused 14 1"
+    ∷ line "C" "refused 20 0"
+    ∷ line "a(A,D)" "refused 20 4"
     ∷ line "ab" "refused 20 0"
     ∷ line "a(a,d)" "refused 20 4"
     ∷ line "b" "refused 14 1"
@@ -74,5 +78,5 @@ edges =
     ∷ []
 
 edge-samples : map given edges ≡ map due edges
-unfolding refuseOn firstFaulty anyBelow rowStart howMany howManyRows firstRows rowsOf sameList rowIs serialForest serial rowWith statesOf entryOf sum product weight stateCounts grow count total largest rowLongest stateLongest longest horner earlierRows rowValue valuesOf numberOf findBy childrenFrom treeIn treeOf allBelow cut tooMany outOfRange notBelow repeated rowGround acceptingGround stateGround checkWithin checkOutcome isLetter isNameByte allNameBytes isName sameName linesOf nameOf lineWith symbolOf isListed lineGround namesThen openAfter entryGround endsTooSoon formThen treeThen levelsOf treeFrom textOfTerms textOf step scan termThen run nameBegins before seenFrom termFrom symbolsOf namesOf entriesOf bytesOf nameGround readTermOutcome symbolGround writeTermOutcome reachesNone stuckThen acceptedThen numberTree numberOutcome treeEntries writeTree entriesFor writeOutcome ascii paperRowList flatten paperRows paperNames allDigits isNumber numberAfter numberIn decimalBy decimal answerNumber answerTerm answerTo answersTo outputFor times
+unfolding refuseOn firstFaulty anyBelow rowStart howMany howManyRows firstRows rowsOf sameBy rowIs serialForest serial rowWith statesOf entryOf sum product weight stateCounts grow count total largest rowLongest stateLongest longest horner earlierRows rowValue valuesOf numberOf findBy childrenFrom treeIn treeOf allBelow cut tooMany outOfRange notBelow repeated rowGround acceptingGround stateGround checkWithin checkOutcome isLetter isNameByte allNameBytes isName lower alike linesOf nameOf lineWith symbolOf isListed lineGround namesThen openAfter entryGround endsTooSoon formThen treeThen levelsOf treeFrom textOfTerms textOf step scan termThen run nameBegins before seenFrom termFrom symbolsOf namesOf entriesOf bytesOf nameGround readTermOutcome symbolGround writeTermOutcome reachesNone stuckThen acceptedThen numberTree numberOutcome treeEntries writeTree entriesFor writeOutcome ascii paperRowList flatten paperRows paperNames allDigits isNumber numberAfter numberIn decimalBy decimal answerNumber answerTerm answerTo answersTo outputFor times
 edge-samples = refl

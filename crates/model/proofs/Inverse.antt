@@ -12,12 +12,14 @@ use Rattle.model.specs.Names.{symbolOf}
 use Rattle.model.specs.Term.{Terms, Term, none, term, alone, textOf, AllNames, IsTerm, termFrom}
 use Rattle.model.specs.TermOperations.{symbolsOf, namesOf, treeOfTerm, termOfTree, AllListed, entriesOf, bytesOf, nameGround, readTermOutcome, symbolGround, writeTermOutcome, readTermList, writeTermList}
 use Rattle.model.specs.Inverse.{Writable, WriteTaken, Readable, ReadTaken, WrittenReads, ReadWrites, ReadLent, WriteLent, entriesEach, EntriesSentence}
+use Rattle.model.specs.Spelling.{respelt, InSpelling, WrittenSpelling}
 use Rattle.model.proofs.Choice.{if-no, if-result, no-fault, no-fault-back}
 use Rattle.model.proofs.Writing.{lent-all, lent-front, lent-told}
 use Rattle.model.proofs.Entries.{tree-from, tree-then-taken, tree-then-back}
-use Rattle.model.proofs.Scan.{texts, terms-texts, name-from, applied-from, term-of, term-from, term-text, term-or-taken, term-or-back}
+use Rattle.model.proofs.Scan.{texts, terms-texts, name-from, applied-from, term-of, term-from, term-or-taken, term-or-back}
 use Rattle.model.proofs.Names.{Sound, names-list, list-sound, names-taken, names-back, symbol-of-name, name-of-symbol, name-is}
 use Rattle.model.proofs.Listed.{AllNamed, listed-names, names-listed, low-named, named-low, symbol-low, low-symbol, text-bound}
+use Rattle.model.proofs.Spelling.{respelt-length, respelling, respelt-term}
 
 -- ---- names and symbols, there and back
 
@@ -55,22 +57,11 @@ listed-named names (term n inner right) a =
     let p = name-of-symbol names n (a .0) in
     (p .1, p .2, listed-named names inner (a .1), listed-named names right (a .2))
 
--- from listed names to the symbols and back
-pub names-symbols : (names : List ℕ) (f : Terms) → AllListed names f → namesOf names (symbolsOf names f) ≡ f
-unfolding AllListed symbolsOf namesOf
-names-symbols names none a = refl
-names-symbols names (term n inner right) a =
-    λ i. term (name-of-symbol names n (a .0) .0 i) (names-symbols names inner (a .1) i) (names-symbols names right (a .2) i)
-
--- a tree, its term, and its tree again; a term, its tree, and its term again
+-- a tree, its term, and its tree again
 tree-term : (names : List ℕ) → Sound names → (t : Tree) → AllNamed names (only t) → treeOfTerm names (termOfTree names t) ≡ t
 unfolding AllNamed
 tree-term names h t a =
     λ i. record { symbol = symbol-of-name names h (t .symbol) (a .0) (a .1) .0 i; children = symbols-names names h (t .children) (a .2) i }
-
-term-tree : (names : List ℕ) (t : Term) → AllListed names (alone t) → termOfTree names (treeOfTerm names t) ≡ t
-unfolding AllListed
-term-tree names t a = λ i. record { name = name-of-symbol names (t .name) (a .0) .0 i; inner = names-symbols names (t .inner) (a .1) i }
 
 -- ---- the entries of a term, by texts alone
 
@@ -263,22 +254,35 @@ module _ (names text : List ℕ) (r : Readable names text) where
         written = refl;
       }
 
-  read-bytes : bytesOf names (entriesOf names text) ≡ text
+  -- the bytes of its tree are the text in the list's spelling
+  read-bytes : bytesOf names (entriesOf names text) ≡ respelt names text
   unfolding bytesOf read-tree
   read-bytes =
       ap (λ (t : Tree). textOf (termOfTree names t)) (tree-from (entriesOf names text) read-tree)
-      ∙ ap textOf (term-tree names (termFrom text) read-listed)
-      ∙ term-text text (r .well)
+      ∙ ap (λ (t : Term). textOf (termOfTree names (treeOfTerm names t))) (term-from text (r .well))
+      ∙ sym (respelt-term names text (r .well) (r .listed))
 
   read-written : Writable names (entriesOf names text)
   unfolding read-tree
   read-written = record { list = r .list; few = r .few; well = read-tree; named = named-low names (entriesOf names text) read-tree read-named }
 
--- writing a read term gives back the text
+-- writing a read term gives the text in the list's spelling
 pub read-writes : ReadWrites
 unfolding writeTermList readTermList
 read-writes names text tree n e lent l =
     let p = read-back names text (length tree) n e in
     let same = read-bytes names text (p .0) in
-    there-and-back (writeTermOutcome names) (bytesOf names) (readTermOutcome names text (length tree)) n text (entriesOf names text) tree lent e (p .1) same
-    (write-taken names (entriesOf names text) (length lent) (read-written names text (p .0)) (rw same l))
+    let long = respelt-length names text in
+    let q = there-and-back (writeTermOutcome names) (bytesOf names) (readTermOutcome names text (length tree)) n (respelt names text) (entriesOf names text) tree
+    lent e (p .1) same (write-taken names (entriesOf names text) (length lent) (read-written names text (p .0)) (rw (same, long) l)) in
+    (q .0 ∙ ap result long, q .1 ∙ ap (λ (k : ℕ). respelt names text ++ drop k lent) long)
+
+-- what is written is in the list's spelling
+pub written-spelling : WrittenSpelling
+unfolding writeTermList
+written-spelling names tree text n e =
+    let p = write-back names tree (length text) n e in
+    let same : respelt names (bytesOf names tree) ≡ bytesOf names tree =
+    sym (read-bytes names (bytesOf names tree) (written-read names tree (p .0))) ∙ ap (bytesOf names) (written-entries names tree (p .0)) in
+    subst (InSpelling names) (sym (lent-front (writeTermOutcome names tree (length text)) n (bytesOf names tree) text e (p .1)))
+    (respelling names (bytesOf names tree) .same .0 same)

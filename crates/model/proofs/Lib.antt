@@ -23,10 +23,13 @@ pub mod Stuck
 pub mod Entries
 pub mod Demand3
 pub mod Bytes
+pub mod Alike
 pub mod Scan
 pub mod Names
 pub mod Listed
+pub mod Spelling
 pub mod Inverse
+pub mod Either
 pub mod TermRefusals
 pub mod TreeRefusals
 pub mod TermExamples

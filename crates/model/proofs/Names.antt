@@ -1,5 +1,5 @@
 -- Laws of names lists: which are taken, the names in them, and symbols and names there and back. When two names are equal is used only
--- through `same-refl` and `same-is`.
+-- through the laws of Alike.
 use Prim.Native.Nat.{ℕ, zero, suc, _+_, _-_, _≤_, _<_}
 use mathlib.Core.Path.{_≡_, refl, ap, sym, _∙_}
 use mathlib.Core.Bool.{Bool, true, false, not, _||_}
@@ -8,27 +8,15 @@ use mathlib.Core.Logic.{_↔_}
 use native.Mathlib.Omega.{arith}
 use native.Mathlib.Nat.{not-suc-le-zero, le-of-suc-le-suc}
 use lib.ListN.{length, getD, length-map, List·getD-map}
-use lib.Dec.{eqb, leb}
+use lib.Dec.{eqb, ltb, leb}
 use borrow.Author.Tests.{eqb-true, ltb-true, lt-ltb, leb-false, lt-leb, eqb-false, ne-eqb, not-false}
 use Rattle.model.specs.Answers.{Outcome, result, refused}
 use Rattle.model.specs.Choice.{if_then_else_, anyBelow}
 use Rattle.model.specs.Names.{allNameBytes, isName, sameName, bytesOfNames, IsNamesList, Line, joined, linesOf, noLine, lineAt, howManyNames, nameOf, lineWith, symbolOf, isListed, lineGround, namesThen}
-use Rattle.model.proofs.Choice.{if-no, if-result, if-zero, or-false, not-both, no-fault, no-fault-back, any-false, any-none}
-use Rattle.model.proofs.Rows.{sameList-refl, sameList-true}
+use Rattle.model.proofs.Choice.{if-no, if-result, if-zero, one-place, or-false, not-both, no-fault, no-fault-back, any-false, any-none}
 use Rattle.model.proofs.Counting.{getD-map}
 use Rattle.model.proofs.Bytes.{byte-not-ten, byte-first, byte-others, name-bytes}
-
--- ---- when two names are equal
-
--- a name is equal to itself
-pub same-refl : (a : List ℕ) → sameName a a ≡ true
-unfolding sameName
-same-refl a = sameList-refl a
-
--- equal names are the same bytes
-pub same-is : (a b : List ℕ) → sameName a b ≡ true → a ≡ b
-unfolding sameName
-same-is a b e = sameList-true a b e
+use Rattle.model.proofs.Alike.{same-refl, same-sym, same-trans, same-both}
 
 -- ---- the lists that are taken
 
@@ -238,24 +226,55 @@ line-found (x ∷ ls) n l = go (sameName (x .bytes) n) refl l (line-found ls n)
     go true e m ih = e
     go false e m ih = ih (le-of-suc-le-suc m)
 
+-- a name that is equal to a line's is listed, and has that line's symbol
+pub listed-line : (names : List ℕ) → Sound names → (n : List ℕ) (k : ℕ) → k < howManyNames names → sameName (lineAt names k .bytes) n ≡ true
+    → (symbolOf names n ≡ suc k) × (isListed names n ≡ true)
+unfolding symbolOf isListed
+listed-line names h n k l e =
+    let other : (j : ℕ) → j < k → sameName (lineAt names j .bytes) n ≡ false =
+    λ j i. sym (same-both (lineAt names k .bytes) n (lineAt names j .bytes) e) ∙ h .apart j k i l in
+    let f = line-first (linesOf names) n k l e other in
+    (ap suc f, lt-ltb (lineWith (linesOf names) n) (howManyNames names) (omega (arith, f)))
+
 -- a symbol's name is listed, and has that symbol
 pub symbol-of-name : (names : List ℕ) → Sound names → (s : ℕ) → 1 ≤ s → s ≤ howManyNames names
     → (symbolOf names (nameOf names s) ≡ s) × (isListed names (nameOf names s) ≡ true)
-unfolding symbolOf nameOf isListed
+unfolding nameOf
 symbol-of-name names h s l m =
-    let k : s - 1 < howManyNames names = omega arith in
-    let e : lineWith (linesOf names) (lineAt names (s - 1) .bytes) ≡ s - 1 =
-    line-first (linesOf names) _ (s - 1) k (same-refl (lineAt names (s - 1) .bytes)) (λ j i. h .apart j (s - 1) i k) in
-    (omega arith, lt-ltb (lineWith (linesOf names) (lineAt names (s - 1) .bytes)) (howManyNames names) (omega arith))
+    let p = listed-line names h (lineAt names (s - 1) .bytes) (s - 1) (omega arith) (same-refl (lineAt names (s - 1) .bytes)) in
+    (omega (arith, p .0), p .1)
 
--- a listed name has a symbol, and is its name
+-- one line at most is equal to a name
+pub one-line : (names : List ℕ) → Sound names → (n : List ℕ) (j k : ℕ) → j < howManyNames names → k < howManyNames names
+    → sameName (lineAt names j .bytes) n ≡ true → sameName (lineAt names k .bytes) n ≡ true → j ≡ k
+one-line names s n j k l m e f = one-place j k (λ d. apart j k d m e f) (λ d. apart k j d l f e)
+  where
+    apart : (i h : ℕ) → i < h → h < howManyNames names → sameName (lineAt names i .bytes) n ≡ true → sameName (lineAt names h .bytes) n ≡ true → ⊥
+    apart i h d m e f =
+        not-both (sameName (lineAt names i .bytes) (lineAt names h .bytes)) (same-trans _ n _ e (same-sym (lineAt names h .bytes) n f)) (s .apart i h d m)
+
+-- either spelling of a name has the same line, the same symbol, and is listed or not
+line-alike : (ls : List Line) (a b : List ℕ) → sameName a b ≡ true → lineWith ls a ≡ lineWith ls b
+unfolding lineWith
+line-alike [] a b e = refl
+line-alike (x ∷ ls) a b e = rw (same-both a b (x .bytes) e, line-alike ls a b e)
+
+pub symbol-alike : (names a b : List ℕ) → sameName a b ≡ true → symbolOf names a ≡ symbolOf names b
+unfolding symbolOf
+symbol-alike names a b e = ap suc (line-alike (linesOf names) a b e)
+
+pub listed-alike : (names a b : List ℕ) → sameName a b ≡ true → isListed names a ≡ isListed names b
+unfolding isListed
+listed-alike names a b e = ap (λ (k : ℕ). ltb k (howManyNames names)) (line-alike (linesOf names) a b e)
+
+-- a listed name has a symbol, whose name is equal to it
 pub name-of-symbol : (names n : List ℕ) → isListed names n ≡ true
-    → (nameOf names (symbolOf names n) ≡ n) × (1 ≤ symbolOf names n) × (symbolOf names n ≤ howManyNames names)
+    → (sameName (nameOf names (symbolOf names n)) n ≡ true) × (1 ≤ symbolOf names n) × (symbolOf names n ≤ howManyNames names)
 unfolding symbolOf nameOf isListed
 name-of-symbol names n e =
     let l : lineWith (linesOf names) n < howManyNames names = ltb-true (lineWith (linesOf names) n) (howManyNames names) e in
     let k : suc (lineWith (linesOf names) n) - 1 ≡ lineWith (linesOf names) n = omega arith in
-    (ap (λ (i : ℕ). lineAt names i .bytes) k ∙ same-is _ n (line-found (linesOf names) n l), omega arith, omega arith)
+    (ap (λ (i : ℕ). sameName (lineAt names i .bytes) n) k ∙ line-found (linesOf names) n l, omega arith, omega arith)
 
 -- the name of a symbol is one
 pub name-is : (names : List ℕ) → Sound names → (s : ℕ) → 1 ≤ s → s ≤ howManyNames names → isName (nameOf names s) ≡ true

@@ -4,7 +4,7 @@ use mathlib.Core.Bool.{true}
 use mathlib.Core.List.{[], _∷_, map, flatten}
 use Rattle.model.specs.Answers.{result}
 use Rattle.model.specs.Choice.{refuseOn, firstFaulty, anyBelow}
-use Rattle.model.specs.Table.{rowStart, howMany, howManyRows, firstRows, rowsOf, tableOf, sameList, rowIs}
+use Rattle.model.specs.Table.{rowStart, howMany, howManyRows, firstRows, rowsOf, tableOf, sameBy, rowIs}
 use Rattle.model.specs.Count.{sum, product, weight, stateCounts, grow, count, total, largest, rowLongest, stateLongest, longest}
 use Rattle.model.specs.Names.{linesOf}
 use Rattle.model.specs.Text.{ascii}
@@ -23,5 +23,5 @@ paper-counts = refl
 
 -- "the total is 12"
 pub paper-checks : checkOutcome paperStates paperRows paperAccepting ≡ result 12
-unfolding checkOutcome checkWithin firstFaulty refuseOn anyBelow rowStart howMany howManyRows firstRows rowsOf sameList rowIs sum product weight stateCounts grow count total largest rowLongest stateLongest longest allBelow cut tooMany outOfRange notBelow repeated rowGround acceptingGround stateGround paperRowList flatten paperRows
+unfolding checkOutcome checkWithin firstFaulty refuseOn anyBelow rowStart howMany howManyRows firstRows rowsOf sameBy rowIs sum product weight stateCounts grow count total largest rowLongest stateLongest longest allBelow cut tooMany outOfRange notBelow repeated rowGround acceptingGround stateGround paperRowList flatten paperRows
 paper-checks = refl

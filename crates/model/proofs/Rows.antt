@@ -11,8 +11,9 @@ use lib.Seq.{getD-at, take-add, take-all, drop-cons, length-take-le, getD-append
 use lib.Dec.{eqb, ltb}
 use borrow.Author.Tests.{ltb-true, ltb-false, lt-ltb, le-ltb, eqb-true, eq-eqb}
 use Rattle.model.specs.Choice.{if_then_else_}
-use Rattle.model.specs.Table.{Row, noRow, pack, argCountAt, argsAt, rowAt, rowStart, rowNumbered, howMany, howManyRows, firstRows, rowsOf, sameList, rowIs, Whole}
+use Rattle.model.specs.Table.{Row, noRow, pack, argCountAt, argsAt, rowAt, rowStart, rowNumbered, howMany, howManyRows, firstRows, rowsOf, sameBy, sameList, rowIs, Whole}
 use Rattle.model.proofs.Choice.{First, nowhere, first, first-of, and-true, and-both}
+use Rattle.model.proofs.Lists.{same-self}
 
 -- ---- where rows begin
 
@@ -233,12 +234,10 @@ pack-whole rs i l = omega (arith, rowStart-grows (pack rs) (suc i) (length rs) l
 -- ---- the test of a row's symbol and arguments
 
 pub sameList-refl : (xs : List ℕ) → sameList xs xs ≡ true
-unfolding sameList
-sameList-refl [] = refl
-sameList-refl (x ∷ xs) = and-both (eqb x x) (sameList xs xs) (eq-eqb x x refl) (sameList-refl xs)
+sameList-refl xs = same-self eqb (λ x. eq-eqb x x refl) xs
 
 pub sameList-true : (xs ys : List ℕ) → sameList xs ys ≡ true → xs ≡ ys
-unfolding sameList
+unfolding sameBy
 sameList-true [] [] h = refl
 sameList-true [] (y ∷ ys) h = let z : _≡_ {A = ℕ} 0 1 = cc in absurd (omega arith)
 sameList-true (x ∷ xs) [] h = let z : _≡_ {A = ℕ} 0 1 = cc in absurd (omega arith)

@@ -461,12 +461,9 @@ pub term-of : (t : Term) → AllNames (alone t) → termFrom (textOf t) ≡ t
 unfolding termFrom
 term-of t a = rw (term-seen t a, sameList-refl (textOf t))
 
--- of a text that is a term: the term, its text, its names
+-- of a text that is a term: the term
 pub term-from : (text : List ℕ) (w : IsTerm text) → termFrom text ≡ w .is
 term-from text w = ap termFrom (sym (w .written)) ∙ term-of (w .is) (w .names)
-
-pub term-text : (text : List ℕ) → IsTerm text → textOf (termFrom text) ≡ text
-term-text text w = ap textOf (term-from text w) ∙ w .written
 
 -- refusal 19: a term is not refused, and behind it a result is of a term
 pub term-or-taken : (text : List ℕ) → IsTerm text → (o : Outcome) → termThen text o ≡ o

@@ -8,13 +8,13 @@ use lib.Dec.{ltb}
 use mathlib.Core.List.{List, [], _∷_, map, flatten}
 use Rattle.model.specs.Answers.{Outcome, result, refused}
 use Rattle.model.specs.Choice.{if_then_else_, refuseOn, firstFaulty, anyBelow}
-use Rattle.model.specs.Table.{Row, Table, noRow, pack, tableOf, rowAt, howMany, howManyRows, firstRows, rowsOf, sameList, rowIs}
+use Rattle.model.specs.Table.{Row, Table, noRow, pack, tableOf, rowAt, howMany, howManyRows, firstRows, rowsOf, sameBy, rowIs}
 use Rattle.model.specs.Tree.{Tree, serialForest, serial}
 use Rattle.model.specs.Reach.{targetOf, rowWith, statesOf, rowOf, stateOf, entryOf}
 use Rattle.model.specs.Count.{sum, product, weight, stateCounts, grow, count, total}
 use Rattle.model.specs.Value.{horner, earlierRows, rowValue, valuesOf, numberOf}
 use Rattle.model.specs.Check.{checkWithin, checkOutcome}
-use Rattle.model.specs.Names.{isLetter, isNameByte, allNameBytes, isName, sameName, linesOf, lineWith, symbolOf, isListed, lineGround, namesThen}
+use Rattle.model.specs.Names.{isLetter, isNameByte, allNameBytes, isName, lower, alike, linesOf, lineWith, symbolOf, isListed, lineGround, namesThen}
 use Rattle.model.specs.Entries.{openAfter, entryGround, endsTooSoon, formThen, treeThen, levelsOf, treeFrom}
 use Rattle.model.specs.Term.{textOfTerms, textOf, step, scan, termThen, run, nameBegins, before, seenFrom, termFrom}
 use Rattle.model.specs.TermOperations.{symbolsOf, entriesOf, nameGround, readTermOutcome, readTermList}
@@ -175,7 +175,7 @@ given-quick room (number n s) = ap answer (write-by n room)
 given-quick room (nothing s) = refl
 
 computed : (room : ℕ) → map (quick room) facts ≡ map due facts
-unfolding facts ascii paperNames plainRows paperRowList refuseOn firstFaulty anyBelow howMany howManyRows firstRows rowsOf sameList rowIs serialForest serial rowWith statesOf entryOf sum product weight horner earlierRows rowValue valuesOf numberOf checkWithin checkOutcome stateCounts grow count total isLetter isNameByte allNameBytes isName sameName linesOf lineWith symbolOf isListed lineGround namesThen openAfter entryGround endsTooSoon formThen treeThen levelsOf treeFrom textOfTerms textOf step scan termThen run nameBegins before seenFrom termFrom symbolsOf entriesOf nameGround readTermOutcome readTermList reachesNone stuckThen acceptedThen
+unfolding facts ascii paperNames plainRows paperRowList refuseOn firstFaulty anyBelow howMany howManyRows firstRows rowsOf sameBy rowIs serialForest serial rowWith statesOf entryOf sum product weight horner earlierRows rowValue valuesOf numberOf checkWithin checkOutcome stateCounts grow count total isLetter isNameByte allNameBytes isName lower alike linesOf lineWith symbolOf isListed lineGround namesThen openAfter entryGround endsTooSoon formThen treeThen levelsOf treeFrom textOfTerms textOf step scan termThen run nameBegins before seenFrom termFrom symbolsOf entriesOf nameGround readTermOutcome readTermList reachesNone stuckThen acceptedThen
 computed room = refl
 
 -- every starred fact follows from the definitions

@@ -10,7 +10,7 @@ use lib.Dec.{eqb, ltb}
 use borrow.Author.Tests.{lt-ltb, le-ltb, ne-eqb}
 use Rattle.model.specs.Answers.{Outcome, result, refused}
 use Rattle.model.specs.Choice.{if_then_else_, refuseOn, firstFaulty, anyBelow}
-use Rattle.model.specs.Table.{rowStart, howMany, howManyRows, firstRows, rowsOf, sameList, rowIs}
+use Rattle.model.specs.Table.{rowStart, howMany, howManyRows, firstRows, rowsOf, sameBy, rowIs}
 use Rattle.model.specs.Tree.{serialForest, serial}
 use Rattle.model.specs.Reach.{rowWith, statesOf, entryOf}
 use Rattle.model.specs.Count.{sum, product, weight, stateCounts, grow, count, total, largest, rowLongest, stateLongest, longest}
@@ -84,7 +84,7 @@ checked =
     ∷ []
 
 checked-hold : map given checked ≡ map due checked
-unfolding leaf checked checkOutcome checkWithin firstFaulty refuseOn anyBelow rowStart howMany howManyRows firstRows rowsOf sameList rowIs sum product weight stateCounts grow count total largest rowLongest stateLongest longest allBelow cut tooMany outOfRange notBelow repeated rowGround acceptingGround stateGround
+unfolding leaf checked checkOutcome checkWithin firstFaulty refuseOn anyBelow rowStart howMany howManyRows firstRows rowsOf sameBy rowIs sum product weight stateCounts grow count total largest rowLongest stateLongest longest allBelow cut tooMany outOfRange notBelow repeated rowGround acceptingGround stateGround
 checked-hold = refl
 
 -- 3: row 1,023 is the 1,024th
@@ -112,7 +112,7 @@ limits =
     ∷ []
 
 limits-hold : map given limits ≡ map due limits
-unfolding power two below-above even lengths both limits checkOutcome checkWithin firstFaulty refuseOn anyBelow rowStart howMany howManyRows firstRows rowsOf sameList rowIs sum product weight stateCounts grow count total largest rowLongest stateLongest longest allBelow cut tooMany outOfRange notBelow repeated rowGround acceptingGround stateGround
+unfolding power two below-above even lengths both limits checkOutcome checkWithin firstFaulty refuseOn anyBelow rowStart howMany howManyRows firstRows rowsOf sameBy rowIs sum product weight stateCounts grow count total largest rowLongest stateLongest longest allBelow cut tooMany outOfRange notBelow repeated rowGround acceptingGround stateGround
 limits-hold = refl
 
 -- a leaf in state 0; in state 1 a node with one leaf, and one with two; state 2 is reached by a node of those, and is not listed
@@ -155,7 +155,7 @@ numbered =
     ∷ []
 
 numbered-hold : map given numbered ≡ map due numbered
-unfolding power two even leaf small numbered checkOutcome checkWithin firstFaulty refuseOn anyBelow rowStart howMany howManyRows firstRows rowsOf sameList rowIs sum product weight stateCounts grow count total largest rowLongest stateLongest longest allBelow cut tooMany outOfRange notBelow repeated rowGround acceptingGround stateGround serialForest serial rowWith statesOf entryOf horner earlierRows rowValue valuesOf numberOf openAfter entryGround endsTooSoon formThen treeThen levelsOf treeFrom reachesNone stuckThen acceptedThen numberTree numberOutcome
+unfolding power two even leaf small numbered checkOutcome checkWithin firstFaulty refuseOn anyBelow rowStart howMany howManyRows firstRows rowsOf sameBy rowIs sum product weight stateCounts grow count total largest rowLongest stateLongest longest allBelow cut tooMany outOfRange notBelow repeated rowGround acceptingGround stateGround serialForest serial rowWith statesOf entryOf horner earlierRows rowValue valuesOf numberOf openAfter entryGround endsTooSoon formThen treeThen levelsOf treeFrom reachesNone stuckThen acceptedThen numberTree numberOutcome
 numbered-hold = refl
 
 written : List Example
@@ -175,7 +175,7 @@ written =
     ∷ []
 
 written-hold : map given written ≡ map due written
-unfolding leaf small written checkOutcome checkWithin firstFaulty refuseOn anyBelow rowStart howMany howManyRows firstRows rowsOf sameList rowIs sum product weight stateCounts grow count total largest rowLongest stateLongest longest allBelow cut tooMany outOfRange notBelow repeated rowGround acceptingGround stateGround serialForest serial findBy childrenFrom treeIn treeOf treeEntries writeTree writeTreeList entriesFor writeOutcome writeList
+unfolding leaf small written checkOutcome checkWithin firstFaulty refuseOn anyBelow rowStart howMany howManyRows firstRows rowsOf sameBy rowIs sum product weight stateCounts grow count total largest rowLongest stateLongest longest allBelow cut tooMany outOfRange notBelow repeated rowGround acceptingGround stateGround serialForest serial findBy childrenFrom treeIn treeOf treeEntries writeTree writeTreeList entriesFor writeOutcome writeList
 written-hold = refl
 
 -- ---- "A list that is no tree can open more": nodes that are opened and not closed, up to 4,096 of them

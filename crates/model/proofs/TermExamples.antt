@@ -2,7 +2,7 @@
 -- refusals, and limits from both sides; 21 at its real size by the laws. Texts stand as texts, so that no byte's number is taken on trust.
 use Prim.Native.Nat.{ℕ, zero, suc, _+_, _*_, _/_, _%_}
 use mathlib.Core.Path.{_≡_, refl, ap, sym, _∙_}
-use mathlib.Core.Bool.{Bool, false, not}
+use mathlib.Core.Bool.{Bool, false, _&&_, not}
 use mathlib.Core.List.{List, [], _∷_, _++_, append-nil, map}
 use native.Mathlib.Omega.{arith}
 use lib.ListN.{length, getD, replicate, length-append}
@@ -10,12 +10,13 @@ use lib.Dec.{eqb}
 use Rattle.model.specs.Answers.{Outcome, result, refused}
 use Rattle.model.specs.Choice.{if_then_else_, refuseOn, firstFaulty, anyBelow}
 use Rattle.model.specs.Text.{ascii}
-use Rattle.model.specs.Table.{sameList}
+use Rattle.model.specs.Table.{sameBy}
 use Rattle.model.specs.Tree.{serialForest, serial}
-use Rattle.model.specs.Names.{IsNamesList, isLetter, isNameByte, allNameBytes, isName, sameName, linesOf, nameOf, lineWith, symbolOf, isListed, lineGround, namesThen}
+use Rattle.model.specs.Names.{IsNamesList, isLetter, isNameByte, allNameBytes, isName, lower, alike, linesOf, nameOf, lineWith, symbolOf, isListed, lineGround, namesThen}
 use Rattle.model.specs.Entries.{openAfter, entryGround, endsTooSoon, formThen, treeThen, levelsOf, treeFrom}
 use Rattle.model.specs.Term.{Terms, none, term, Term, alone, AllNames, IsTerm, textOfTerms, textOf, step, scan, termThen, run, nameBegins, before, seenFrom, termFrom}
 use Rattle.model.specs.TermOperations.{symbolsOf, namesOf, treeOfTerm, AllListed, entriesOf, bytesOf, nameGround, readTermWithin, readTermOutcome, symbolGround, writeTermOutcome, readTermList, writeTermList}
+use Rattle.model.specs.Spelling.{spelt, respeltFrom, respelt}
 use Rattle.model.specs.Inverse.{Readable}
 use Rattle.model.specs.TermRefusals.{read21}
 use Rattle.model.proofs.Scan.{term-of}
@@ -23,7 +24,7 @@ use Rattle.model.proofs.Names.{names-list, names-back}
 use Rattle.model.proofs.Inverse.{read-exactly}
 use Rattle.model.proofs.TermRefusals.{read-refuses}
 
--- ---- the bytes of names and terms
+-- ---- the bytes of names
 
 -- of the bytes below n, in order, those with the property
 unfoldable pub bytesWith : (ℕ → Bool) → ℕ → List ℕ
@@ -46,6 +47,25 @@ name-bytes : bytesWith isNameByte 256 ≡ nameBytes
 unfolding ascii nameBytes bytesWith isLetter isNameByte
 name-bytes = refl
 
+-- ---- the bytes that are alike
+
+-- of the pairs of a with a byte below n, those that are alike and not the same, one after another
+unfoldable pairsWith : (a n : ℕ) → List ℕ
+pairsWith a zero = []
+pairsWith a (suc n) = pairsWith a n ++ (if alike a n && not (eqb a n) then a ∷ n ∷ [] else [])
+
+-- the same for each a below n
+unfoldable pairs : ℕ → List ℕ
+pairs zero = []
+pairs (suc n) = pairs n ++ pairsWith n 256
+
+-- "differ only in the case of ASCII letters": of all 256 times 256 pairs (each byte is alike to itself: the law `alike-refl`)
+alike-pairs : pairs 256 ≡ ascii "AaBbCcDdEeFfGgHhIiJjKkLlMmNnOoPpQqRrSsTtUuVvWwXxYyZzaAbBcCdDeEfFgGhHiIjJkKlLmMnNoOpPqQrRsStTuUvVwWxXyYzZ"
+unfolding ascii pairs pairsWith lower alike
+alike-pairs = refl
+
+-- ---- where bytes may stand
+
 -- the outcome is a refusal at the place
 abbrev refusedAt : ℕ → Outcome → Bool
 refusedAt place (result n) = false
@@ -67,7 +87,7 @@ long = ascii "abcdefghijklmnopqrstu_-9"
 name-places : (named [] (ascii "\n") ≡ letters) × (named [] (ascii "a\n") ≡ letters)
     × (named (ascii "a") (ascii "\n") ≡ ascii "\n" ++ nameBytes) × (named (ascii "a") (ascii "b\n") ≡ ascii "\n" ++ nameBytes)
     × (named long (ascii "\n") ≡ ascii "\n")
-unfolding ascii letters nameBytes long bytesWith named refuseOn firstFaulty anyBelow sameList isLetter isNameByte allNameBytes isName sameName linesOf lineGround namesThen
+unfolding ascii letters nameBytes long bytesWith named refuseOn firstFaulty anyBelow sameBy isLetter isNameByte allNameBytes isName lower alike linesOf lineGround namesThen
 name-places = (refl, refl, refl, refl, refl)
 
 -- "A term is a name, or a name followed by `(`, one or more terms with `,` between them, and `)`. It holds no blanks": where a name is due; in
@@ -102,6 +122,10 @@ ab = ascii "a\nb\n"
 two : List ℕ
 two = 7 ∷ 7 ∷ []
 
+-- the names `Probe` and `b-X_9`
+probe : List ℕ
+probe = ascii "Probe\nb-X_9\n"
+
 examples : List Example
 examples =
     -- lists longer than needed, as long, and shorter; an empty one
@@ -115,9 +139,23 @@ examples =
     ∷ writes ab (1 ∷ 1 ∷ 0 ∷ 2 ∷ 0 ∷ 0 ∷ []) (replicate 5 7) (refused 24 6) (replicate 5 7)
     ∷ writes ab (1 ∷ 0 ∷ []) [] (refused 24 1) []
     ∷ writes ab (2 ∷ 2 ∷ 1 ∷ 0 ∷ 0 ∷ 1 ∷ 0 ∷ 0 ∷ []) two (refused 24 9) two
-    -- capital letters are others; a name that begins another one
-    ∷ reads (ascii "a\nA\naB_9-\naB\n") (ascii "A(aB,aB_9-)") (replicate 6 7) (result 6) (2 ∷ 4 ∷ 0 ∷ 3 ∷ 0 ∷ 0 ∷ [])
-    ∷ writes (ascii "a\nA\naB_9-\naB\n") (2 ∷ 4 ∷ 0 ∷ 3 ∷ 0 ∷ 0 ∷ []) (replicate 11 7) (result 11) (ascii "A(aB,aB_9-)")
+    -- a name that begins another one
+    ∷ reads (ascii "a\nA1\naB_9-\naB\n") (ascii "A1(aB,aB_9-)") (replicate 6 7) (result 6) (2 ∷ 4 ∷ 0 ∷ 3 ∷ 0 ∷ 0 ∷ [])
+    ∷ writes (ascii "a\nA1\naB_9-\naB\n") (2 ∷ 4 ∷ 0 ∷ 3 ∷ 0 ∷ 0 ∷ []) (replicate 12 7) (result 12) (ascii "A1(aB,aB_9-)")
+    -- either spelling is read, in lists of either; what is written is in the list's
+    ∷ reads probe (ascii "pROBE(B-x_9,Probe)") (replicate 7 7) (result 6) (1 ∷ 2 ∷ 0 ∷ 1 ∷ 0 ∷ 0 ∷ 7 ∷ [])
+    ∷ reads (ascii "probe\nB-X_9\n") (ascii "pROBE(B-x_9,Probe)") (replicate 7 7) (result 6) (1 ∷ 2 ∷ 0 ∷ 1 ∷ 0 ∷ 0 ∷ 7 ∷ [])
+    ∷ writes probe (1 ∷ 2 ∷ 0 ∷ 1 ∷ 0 ∷ 0 ∷ []) (replicate 19 7) (result 18) (ascii "Probe(b-X_9,Probe)" ++ 7 ∷ [])
+    ∷ reads ab (ascii "B(A,cc(dD),C)") two (refused 20 4) two
+    ∷ reads ab (ascii "B(A,B") two (refused 19 5) two
+    -- but no other byte for another: `-` and `_`, `p` and `0`, `m` and `-`; `[` and `{`, `@` and `` ` `` stand in no name
+    ∷ reads (ascii "a-\na_\n") (ascii "A_") two (result 2) (2 ∷ 0 ∷ [])
+    ∷ reads (ascii "a-\n") (ascii "A_") two (refused 20 0) two
+    ∷ reads (ascii "a0\n") (ascii "AP") two (refused 20 0) two
+    ∷ reads (ascii "am\n") (ascii "A-") two (refused 20 0) two
+    ∷ reads ab (ascii "A[") two (refused 19 1) two
+    ∷ reads ab (ascii "A{") two (refused 19 1) two
+    ∷ reads ab (ascii "@") two (refused 19 0) two
     -- 19: the text ends too soon; a byte with which no term can go on
     ∷ reads ab [] two (refused 19 0) two
     ∷ reads ab (ascii "a(") two (refused 19 2) two
@@ -160,8 +198,12 @@ examples =
     ∷ writes (ascii "a\nb") (1 ∷ 0 ∷ []) two (refused 17 1) two
     ∷ reads (ascii "a\nb\na\n") (ascii "a") two (refused 17 2) two
     ∷ reads (ascii "a\na\n1\n") (ascii "a") two (refused 17 1) two
+    ∷ reads (ascii "f\nb\nF\n") (ascii "b") two (refused 17 2) two
+    ∷ writes (ascii "pROBE\nProbe\n") (1 ∷ 0 ∷ []) two (refused 17 1) two
+    ∷ reads (long ++ ascii "\nABCDEFGHIJKLMNOPQRSTU_-9\n") (ascii "a") two (refused 17 1) two
     -- names of 24 bytes, and of 25
     ∷ reads (ascii "a\n" ++ long ++ ascii "\n") long two (result 2) (2 ∷ 0 ∷ [])
+    ∷ reads (ascii "a\n" ++ long ++ ascii "\n") (ascii "ABCDEFGHIJKLMNOPQRSTU_-9") two (result 2) (2 ∷ 0 ∷ [])
     ∷ reads (ascii "a\n" ++ long ++ ascii "x\n") (ascii "a") two (refused 17 1) two
     ∷ reads ab (long ++ ascii "x") two (refused 19 24) two
     -- the order of the refusals: two grounds hold, the earlier one decides
@@ -174,8 +216,14 @@ examples =
     ∷ []
 
 term-examples : map given examples ≡ map due examples
-unfolding examples ascii ab two long refuseOn firstFaulty anyBelow sameList serialForest serial isLetter isNameByte allNameBytes isName sameName linesOf nameOf lineWith symbolOf isListed lineGround namesThen openAfter entryGround endsTooSoon formThen treeThen levelsOf treeFrom textOfTerms textOf step scan termThen run nameBegins before seenFrom termFrom symbolsOf namesOf entriesOf bytesOf nameGround readTermOutcome symbolGround writeTermOutcome readTermList writeTermList
+unfolding examples ascii ab two probe long refuseOn firstFaulty anyBelow sameBy serialForest serial isLetter isNameByte allNameBytes isName lower alike linesOf nameOf lineWith symbolOf isListed lineGround namesThen openAfter entryGround endsTooSoon formThen treeThen levelsOf treeFrom textOfTerms textOf step scan termThen run nameBegins before seenFrom termFrom symbolsOf namesOf entriesOf bytesOf nameGround readTermOutcome symbolGround writeTermOutcome readTermList writeTermList
 term-examples = refl
+
+-- the text in the list's spelling: each name, and no other byte; a name not listed stays, and so does what begins in one
+respelt-examples : map (respelt probe) (ascii "pROBE(B-x_9,Probe)" ∷ ascii "b-X_9(Probe)" ∷ ascii "c(PROBE),[B-X_9" ∷ ascii "PROBEs(b-x_)" ∷ ascii "" ∷ [])
+    ≡ ascii "Probe(b-X_9,Probe)" ∷ ascii "b-X_9(Probe)" ∷ ascii "c(Probe),[b-X_9" ∷ ascii "PROBEs(b-x_)" ∷ ascii "" ∷ []
+unfolding ascii probe sameBy isLetter isNameByte lower alike linesOf nameOf lineWith symbolOf isListed run spelt respeltFrom
+respelt-examples = refl
 
 -- ---- limits from both sides, with a later ground that holds too
 
@@ -208,7 +256,7 @@ limits =
     ∷ []
 
 limit-examples : map given limits ≡ map due limits
-unfolding limits times manyNames ascii ab two refuseOn firstFaulty anyBelow sameList serialForest serial isLetter isNameByte allNameBytes isName sameName linesOf lineWith symbolOf isListed lineGround namesThen openAfter entryGround formThen treeThen textOfTerms textOf step scan termThen run nameBegins before seenFrom termFrom symbolsOf entriesOf nameGround readTermOutcome writeTermOutcome readTermList writeTermList
+unfolding limits times manyNames ascii ab two refuseOn firstFaulty anyBelow sameBy serialForest serial isLetter isNameByte allNameBytes isName lower alike linesOf lineWith symbolOf isListed lineGround namesThen openAfter entryGround formThen treeThen textOfTerms textOf step scan termThen run nameBegins before seenFrom termFrom symbolsOf entriesOf nameGround readTermOutcome writeTermOutcome readTermList writeTermList
 limit-examples = refl
 
 -- 21: a term of 9 bytes whose tree has 8 entries, with a limit for the entries. `readTermOutcome` is the use at 4,096, where the shortest text
@@ -221,7 +269,7 @@ entry-limit :
     (within 8 8 (ascii "b(b(a),a)") ≡ result 8) × (within 7 8 (ascii "b(b(a),a)") ≡ refused 21 0) × (within 2 8 (ascii "b(b(a),a)") ≡ refused 21 0)
     -- 21 comes before 22, and after 20
     × (within 8 7 (ascii "b(b(a),a)") ≡ refused 22 8) × (within 7 7 (ascii "b(b(a),a)") ≡ refused 21 0) × (within 7 7 (ascii "b(b(a),c)") ≡ refused 20 7)
-unfolding ascii ab refuseOn firstFaulty anyBelow sameList serialForest serial isLetter isNameByte allNameBytes isName sameName linesOf lineWith symbolOf isListed lineGround namesThen textOfTerms textOf step scan termThen run nameBegins before seenFrom termFrom symbolsOf entriesOf nameGround
+unfolding ascii ab refuseOn firstFaulty anyBelow sameBy serialForest serial isLetter isNameByte allNameBytes isName lower alike linesOf lineWith symbolOf isListed lineGround namesThen textOfTerms textOf step scan termThen run nameBegins before seenFrom termFrom symbolsOf entriesOf nameGround
 entry-limit = (refl, refl, refl, refl, refl, refl)
 
 -- ---- 21 at its real size, by the laws: a name with n + 1 leaves in its brackets, `a(a,..,a)`
@@ -266,7 +314,7 @@ leaves-names zero = tt
 leaves-names (suc n) = (refl, tt, leaves-names n)
 
 leaves-listed : (n : ℕ) → AllListed ab (leaves n)
-unfolding ascii ab leaves AllListed isListed linesOf lineWith sameName sameList
+unfolding ascii ab leaves AllListed isListed linesOf lineWith lower alike sameBy
 leaves-listed zero = tt
 leaves-listed (suc n) = (refl, tt, leaves-listed n)
 
@@ -275,7 +323,7 @@ unfolding ascii AllNames isName allNameBytes isLetter
 wide-names n = (refl, leaves-names (suc n), tt)
 
 wide-listed : (n : ℕ) → AllListed ab (alone (wide n))
-unfolding ascii ab AllListed isListed linesOf lineWith sameName sameList
+unfolding ascii ab AllListed isListed linesOf lineWith lower alike sameBy
 wide-listed n = (refl, leaves-listed (suc n), tt)
 
 wide-term : (n : ℕ) → IsTerm (textOf (wide n))
@@ -294,7 +342,7 @@ wide-entries n =
     ∙ omega (arith, leaves-entries (suc n), length-append (serialForest (symbolsOf ab (leaves (suc n)))) (0 ∷ []))
 
 ab-list : IsNamesList ab
-unfolding ascii ab refuseOn firstFaulty anyBelow sameList isLetter isNameByte allNameBytes isName sameName linesOf lineGround namesThen
+unfolding ascii ab refuseOn firstFaulty anyBelow sameBy isLetter isNameByte allNameBytes isName lower alike linesOf lineGround namesThen
 ab-list = names-list ab (names-back ab 0 (result 0) refl .0)
 
 -- 2,048 names, so 4,096 entries, are taken; 2,049 are 21 at 0

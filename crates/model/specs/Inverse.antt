@@ -1,5 +1,5 @@
--- What reading and writing a term take, that they are inverse on what both take, what the lent lists then hold, and what a term and its
--- entries are by texts alone. Assumes nothing: these are definitions.
+-- What reading and writing a term take, that each undoes the other on what both take (but for the spelling of a text, which becomes the
+-- list's), what the lent lists then hold, and what a term and its entries are by texts alone. Assumes nothing: these are definitions.
 use Prim.Native.Nat.{ℕ, _≤_, _<_}
 use mathlib.Core.Path.{_≡_}
 use mathlib.Core.Bool.{true}
@@ -11,6 +11,7 @@ use Rattle.model.specs.Tree.{WellFormed}
 use Rattle.model.specs.Names.{isName, IsNamesList, howManyNames, symbolOf}
 use Rattle.model.specs.Term.{alone, IsTerm}
 use Rattle.model.specs.TermOperations.{AllListed, entriesOf, bytesOf, readTermOutcome, writeTermOutcome, readTermList, writeTermList}
+use Rattle.model.specs.Spelling.{respelt}
 
 -- what can be written: none of 17, 12, 13 and 23 holds (a bar, entry 0, is never above the count of names)
 pub record Writable (names tree : List ℕ) : Type 0 where
@@ -47,13 +48,13 @@ WrittenReads =
     → (readTermOutcome names (take n (writeTermList names tree text)) (length lent) ≡ result (length tree))
     × (readTermList names (take n (writeTermList names tree text)) lent ≡ tree ++ drop (length tree) lent)
 
--- writing a read term gives back the text, byte for byte, into any long enough list
+-- "writing a read term gives the text in the list's spelling" (request (a)), into any long enough list
 abbrev pub ReadWrites : Type 0
 ReadWrites =
     (names text tree : List ℕ) (n : ℕ) → readTermOutcome names text (length tree) ≡ result n
     → (lent : List ℕ) → length text ≤ length lent
     → (writeTermOutcome names (take n (readTermList names text tree)) (length lent) ≡ result (length text))
-    × (writeTermList names (take n (readTermList names text tree)) lent ≡ text ++ drop (length text) lent)
+    × (writeTermList names (take n (readTermList names text tree)) lent ≡ respelt names text ++ drop (length text) lent)
 
 -- what the lent lists then hold: reading a term writes its entries, writing a term its bytes
 abbrev pub ReadLent : Type 0

@@ -14,6 +14,7 @@ pub mod Names
 pub mod Entries
 pub mod Term
 pub mod TermOperations
+pub mod Spelling
 pub mod Place
 pub mod Inverse
 pub mod TermRefusals

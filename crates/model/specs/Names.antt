@@ -1,5 +1,5 @@
--- Names lists, and refusal 17. Assumes nothing: these are definitions.
-use Prim.Native.Nat.{ℕ, suc, _-_, _≤_, _<_}
+-- Names, when two are equal, names lists, and refusal 17. Assumes nothing: these are definitions.
+use Prim.Native.Nat.{ℕ, suc, _+_, _-_, _≤_, _<_}
 use mathlib.Core.Path.{_≡_}
 use mathlib.Core.Bool.{Bool, true, false, _&&_, _||_, not}
 use mathlib.Core.List.{List, [], _∷_, _++_}
@@ -7,7 +7,7 @@ use lib.ListN.{length, getD}
 use lib.Dec.{eqb, ltb, leb}
 use Rattle.model.specs.Answers.{Outcome, refused}
 use Rattle.model.specs.Choice.{if_then_else_, firstFaulty, anyBelow}
-use Rattle.model.specs.Table.{sameList}
+use Rattle.model.specs.Table.{sameBy}
 
 -- from low to high, both taken in
 abbrev pub between : (low high b : ℕ) → Bool
@@ -30,9 +30,23 @@ unfoldable pub isName : List ℕ → Bool
 isName [] = false
 isName (b ∷ bs) = isLetter b && allNameBytes bs && leb (length (b ∷ bs)) 24
 
--- when two names are equal: the one place where this is said
-unfoldable pub sameName : List ℕ → List ℕ → Bool
-sameName a b = sameList a b
+-- a capital letter, A to Z, as the small one; any other byte as it is
+unfoldable pub lower : ℕ → ℕ
+lower b = if between 65 90 b then b + 32 else b
+
+-- the same byte, or two that "differ only in the case of ASCII letters" (which they are of all bytes: the law `alike-pairs`)
+unfoldable pub alike : (a b : ℕ) → Bool
+alike a b = eqb (lower a) (lower b)
+
+-- "Two names shall be equal if they differ only in the case of ASCII letters." (request (a)): they are equally long, and alike byte by byte.
+-- The one place where this is said; "equal names" below are these
+abbrev pub sameName : List ℕ → List ℕ → Bool
+sameName a b = sameBy alike a b
+
+-- the same once more, place by place (the law `same-exactly`)
+pub record EachAlike (a b : List ℕ) : Type 0 where
+  pub long : length a ≡ length b
+  pub at : (i : ℕ) → i < length a → alike (getD a i 0) (getD b i 0) ≡ true
 
 -- names, "each followed by byte 10"
 unfoldable pub bytesOfNames : List (List ℕ) → List ℕ
@@ -76,7 +90,7 @@ howManyNames names = length (linesOf names)
 unfoldable pub nameOf : List ℕ → ℕ → List ℕ
 nameOf names s = lineAt names (s - 1) .bytes
 
--- the number of the first line with the name; where there is none, the count of lines
+-- the number of the first line whose name is equal; where there is none, the count of lines
 unfoldable pub lineWith : List Line → List ℕ → ℕ
 lineWith [] n = 0
 lineWith (l ∷ ls) n = if sameName (l .bytes) n then 0 else suc (lineWith ls n)

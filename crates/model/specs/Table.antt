@@ -79,12 +79,16 @@ acceptingStates accepting = accepting
 abbrev pub tableOf : (states : ℕ) (rows accepting : List ℕ) → Table
 tableOf states rows accepting = record { states = states; rows = rowsOf rows; accepting = acceptingStates accepting }
 
+-- two lists are equally long, and their entries agree one by one
+unfoldable pub sameBy : (agree : ℕ → ℕ → Bool) → List ℕ → List ℕ → Bool
+sameBy agree [] [] = true
+sameBy agree [] (y ∷ ys) = false
+sameBy agree (x ∷ xs) [] = false
+sameBy agree (x ∷ xs) (y ∷ ys) = agree x y && sameBy agree xs ys
+
 -- two lists are equal, entry by entry
-unfoldable pub sameList : List ℕ → List ℕ → Bool
-sameList [] [] = true
-sameList [] (y ∷ ys) = false
-sameList (x ∷ xs) [] = false
-sameList (x ∷ xs) (y ∷ ys) = eqb x y && sameList xs ys
+abbrev pub sameList : List ℕ → List ℕ → Bool
+sameList xs ys = sameBy eqb xs ys
 
 -- the row has this symbol and this argument list
 unfoldable pub rowIs : Row → ℕ → List ℕ → Bool

@@ -15,7 +15,9 @@ use Rattle.model.specs.Names.{isLetter, isNameByte, allNameBytes, isName, sameN
 use Rattle.model.specs.Term.{run}
 use Rattle.model.proofs.Choice.{and-true, no-fault, fault-refused, none-more, any-none, any-true, is-false, not-both}
 use Rattle.model.proofs.Bytes.{letter-byte, byte-not-ten, end-no-byte, name-bytes, IsName, name-parts, name-made, byte-first, byte-others}
-use Rattle.model.proofs.Names.{same-refl, same-is, first-ended, some-lines, no-lines, line-first, line-none}
+use Rattle.model.proofs.Alike.{same-folded, same-sym, same-trans}
+use Rattle.model.proofs.Names.{first-ended, some-lines, no-lines, line-first, line-none}
+use Rattle.chains.specs.Hash.{mixAll, spread}
 use Rattle.chains.specs.Chains.{Clear}
 use Rattle.chains.specs.declared.Found.the-variants.{At, Nothing}
 use Rattle.chains.proofs.First.{first-none, first-is, apart}
@@ -356,16 +358,21 @@ part-of {names} {from} {next} {bytes} s =
 abbrev pub sought : (names name : List ℕ) → ℕ → Bool
 sought names name k = sameName (lineAt names k .bytes) name
 
+-- equal names have equal buckets
+pub same-bucket : (a b : List ℕ) → sameName a b ≡ true → hashOf a ≡ hashOf b
+unfolding hashOf
+same-bucket a b e = ap (λ (x : List ℕ). spread 8388608 (mixAll 0 x)) (same-folded a b e)
+
 -- it is in the name's bucket
 pub name-bucket : (names name : List ℕ) (b : ℕ) → b ≡ hashOf name → (k : ℕ) → sought names name k ≡ true → bucketOf names k ≡ b
-name-bucket names name b e k t = ap (λ (x : List ℕ). hashOf x) (same-is (lineAt names k .bytes) name t) ∙ sym e
+name-bucket names name b e k t = same-bucket (lineAt names k .bytes) name t ∙ sym e
 
 -- no earlier line has the name
 pub no-earlier : {names starts heads next : List ℕ} {n : ℕ} → NamesIndexed names starts heads next n → (name : List ℕ) (p : ℕ) → p < n → sought names name p ≡ true
     → (k : ℕ) → k < p → sought names name k ≡ true → ⊥
 no-earlier {names} x name p l t k m u =
     not-both (sameName (lineAt names k .bytes) (lineAt names p .bytes))
-    (ap (λ (y : List ℕ). sameName y (lineAt names p .bytes)) (same-is (lineAt names k .bytes) name u ∙ sym (same-is (lineAt names p .bytes) name t)) ∙ same-refl (lineAt names p .bytes))
+    (same-trans (lineAt names k .bytes) name (lineAt names p .bytes) u (same-sym (lineAt names p .bytes) name t))
     (x .apart k p m l)
 
 -- a name found among all lines is listed, and its symbol is 1 more than the line; one that is not found is not listed

@@ -2,11 +2,11 @@
 use Prim.Native.Nat.{ℕ, _+_, _<_, _≤_}
 use mathlib.Core.Path.{_≡_}
 use mathlib.Core.Bool.{false, _&&_}
-use mathlib.Core.List.{List}
+use mathlib.Core.List.{List, map}
 use lib.ListN.{length, getD, take, drop}
 use Rattle.model.specs.Answers.{Outcome, refused}
 use Rattle.model.specs.Choice.{if_then_else_}
-use Rattle.model.specs.Names.{isName, sameName, lineAt, howManyNames, namesThen}
+use Rattle.model.specs.Names.{isName, lower, sameName, lineAt, howManyNames, namesThen}
 use Rattle.chains.specs.First.{firstWith}
 use Rattle.chains.specs.Hash.{mixAll, spread}
 use Rattle.chains.specs.Chains.{Chains}
@@ -24,9 +24,9 @@ nameEnd names at =
 abbrev pub nameFound : List ℕ → ℕ → List ℕ → Found
 nameFound names n name = firstWith (λ k. sameName (lineAt names k .bytes) name) n
 
--- the bucket of a name, one of 512
+-- the bucket of a name, one of 512: either spelling has the same (the law `same-bucket`)
 unfoldable pub hashOf : List ℕ → ℕ
-hashOf name = spread 8388608 (mixAll 0 name)
+hashOf name = spread 8388608 (mixAll 0 (map lower name))
 
 -- the bucket of the name on line k
 abbrev pub bucketOf : List ℕ → ℕ → ℕ

@@ -4,7 +4,7 @@ use chains::wide;
 ghost use mathlib.Core.Path.{_≡_};
 ghost use Prim.Native.Nat.{_+_, _<_, _≤_};
 ghost use lib.ListN.{length, drop};
-ghost use Rattle.model.specs.Names.{isLetter, isNameByte, sameName, lineAt};
+ghost use Rattle.model.specs.Names.{isLetter, isNameByte, lower, alike, sameName, lineAt};
 ghost use Rattle.model.specs.Term.{run};
 ghost use Rattle.chains.specs.Chains.{Clear};
 ghost use Rattle.names.specs.NamesIndex.{nameEnd, hashOf, nameFound, Lined, NamesIndexed, Started, NamesAnswer};
@@ -47,6 +47,30 @@ pub fn is_name_byte(b: u8) -> bool
     b == b'_'
 }
 
+// A capital letter as the small one; any other byte as it is.
+fn small(b: u8) -> u64
+    ensures { λ r. ⌜ (r ≡ lower b) × (r < 256) ⌝ }
+{
+    let x = b as u64;
+    if b < b'A' {
+        return x;
+    }
+    if b'Z' < b {
+        return x;
+    }
+    x + 32
+}
+
+// Whether two bytes are the same but for the case of a letter.
+fn alike(a: u8, b: u8) -> bool
+    ensures { λ r. ⌜ r ≡ alike a b ⌝ }
+{
+    if a == b {
+        return true;
+    }
+    small(a) == small(b)
+}
+
 // Whether two names are equal.
 pub fn same_name(a: &[u8], b: &[u8]) -> bool
     ensures { λ r. ⌜ r ≡ sameName (now (a .entry)) (now (b .entry)) ⌝ }
@@ -56,7 +80,7 @@ pub fn same_name(a: &[u8], b: &[u8]) -> bool
     }
     let mut i: usize = 0;
     while i < a.len() {
-        if a[i] != b[i] {
+        if !alike(a[i], b[i]) {
             return false;
         }
         i += 1;
@@ -108,7 +132,7 @@ fn hash(name: &[u8]) -> usize
     let mut h: u64 = 0;
     let mut i: usize = 0;
     while i < name.len() {
-        h = (h * 2654435769 + name[i] as u64) % 4294967296;
+        h = (h * 2654435769 + small(name[i])) % 4294967296;
         i += 1;
     }
     (h * 2654435769 % 4294967296 / 8388608) as usize

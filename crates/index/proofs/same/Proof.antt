@@ -3,6 +3,7 @@ use Prim.Native.Nat.{_≤_, _-_}
 use mathlib.Core.Path.{_≡_, refl, sym}
 use native.Mathlib.Omega.{arith}
 use lib.ListN.{length, drop}
+use lib.Dec.{eqb}
 use borrow.Author.Tests.{eq-eqb, ne-eqb}
 use Rattle.model.specs.Table.{sameList}
 use Rattle.model.proofs.Lists.{same-step, same-end, same-length}
@@ -16,7 +17,7 @@ abbrev μ-loop : tie.MeasureT-loop
 μ-loop a b i₀ i = length a - i
 
 returns : tie.Need-returns Inv-loop μ-loop
-returns c = sym (same-length _ _ (c .if1 .taken))
+returns c = sym (same-length eqb _ _ (c .if1 .taken))
 
 loop-holds : tie.Need-loop-holds Inv-loop μ-loop
 loop-holds c = (omega arith, refl)
@@ -24,15 +25,15 @@ loop-holds c = (omega arith, refl)
 returns-2 : tie.Need-returns-2 Inv-loop μ-loop
 returns-2 c =
     let q = c .before .before .before .before in
-    rw (same-step (q .before .before .args .a .now) (q .before .before .args .b .now) (q .loop .i) (omega arith) (omega arith), ne-eqb _ _ (c .if2 .taken)) at (q .loop .inv .1)
+    rw (same-step eqb (q .before .before .args .a .now) (q .before .before .args .b .now) (q .loop .i) (omega arith) (omega arith), ne-eqb _ _ (c .if2 .taken)) at (q .loop .inv .1)
 
 loop-again : tie.Need-loop-again Inv-loop μ-loop
 loop-again c =
     let q = c .before .before .before .before in
-    (omega arith, (rw (same-step (q .before .before .args .a .now) (q .before .before .args .b .now) (q .loop .i) (omega arith) (omega arith), eq-eqb _ _ (c .if2 .left)) at (q .loop .inv .1)))
+    (omega arith, (rw (same-step eqb (q .before .before .args .a .now) (q .before .before .args .b .now) (q .loop .i) (omega arith) (omega arith), eq-eqb _ _ (c .if2 .left)) at (q .loop .inv .1)))
 
 returns-3 : tie.Need-returns-3 Inv-loop μ-loop
-returns-3 c = rw (same-end (c .before .before .before .args .a .now) (c .before .before .before .args .b .now) (c .before .loop .i) (omega arith) (omega arith)) at (c .before .loop .inv .1)
+returns-3 c = rw (same-end eqb (c .before .before .before .args .a .now) (c .before .before .before .args .b .now) (c .before .loop .i) (omega arith) (omega arith)) at (c .before .loop .inv .1)
 
 pub same-spec : {M : Type 1} → statement M
 same-spec =

@@ -1,40 +1,39 @@
 use Prim.Native.Nat.{_≤_, _-_}
-use mathlib.Core.Path.{_≡_, refl, sym}
+use mathlib.Core.Path.{_≡_, refl, sym, _∙_}
 use native.Mathlib.Omega.{arith}
 use lib.ListN.{length, drop}
-use borrow.Author.Tests.{eq-eqb, ne-eqb}
-use Rattle.model.specs.Table.{sameList}
-use Rattle.model.specs.Names.{sameName}
+use borrow.Author.Tests.{not-true, not-false}
+use Rattle.model.specs.Names.{alike, sameName}
 use Rattle.model.proofs.Lists.{same-step, same-end, same-length}
 use Rattle.names.proofs.same_name.Statement.{statement}
 use borrow.Author.Needs.{needs}
 use Rattle.names.proofs.same_name.Tie as tie
 
 abbrev Inv-loop : tie.InvT-loop
-Inv-loop a b i₀ i = (i ≤ length a) × (sameList (drop i a) (drop i b) ≡ sameList a b)
+Inv-loop a b i₀ i = (i ≤ length a) × (sameName (drop i a) (drop i b) ≡ sameName a b)
 
 abbrev μ-loop : tie.MeasureT-loop
 μ-loop a b i₀ i = length a - i
 
 returns : tie.Need-returns Inv-loop μ-loop
-unfolding sameName
-returns c = sym (same-length _ _ (c .if1 .taken))
+returns c = sym (same-length alike _ _ (c .if1 .taken))
 
 loop-holds : tie.Need-loop-holds Inv-loop μ-loop
 loop-holds c = (omega arith, refl)
 
 returns-2 : tie.Need-returns-2 Inv-loop μ-loop
-unfolding sameName
-returns-2 c = let q = c .before .before .before .before in
-    rw (same-step (q .before .before .args .a .now) (q .before .before .args .b .now) (q .loop .i) (omega arith) (omega arith), ne-eqb _ _ (c .if2 .taken)) at (q .loop .inv .1)
+returns-2 c = let q = c .before .before .before .before .before in
+    let s = q .before .before .before .before in
+    rw (same-step alike (s .args .a .now) (s .args .b .now) (q .loop .i) (omega arith) (omega arith), sym (c .before .alike .ensures) ∙ not-true _ (c .if2 .taken)) at (q .loop .inv .1)
 
 loop-again : tie.Need-loop-again Inv-loop μ-loop
-loop-again c = let q = c .before .before .before .before in
-    (omega arith, (rw (same-step (q .before .before .args .a .now) (q .before .before .args .b .now) (q .loop .i) (omega arith) (omega arith), eq-eqb _ _ (c .if2 .left)) at (q .loop .inv .1)))
+loop-again c = let q = c .before .before .before .before .before in
+    let s = q .before .before .before .before in
+    (omega arith, (rw (same-step alike (s .args .a .now) (s .args .b .now) (q .loop .i) (omega arith) (omega arith), sym (c .before .alike .ensures) ∙ not-false _ (c .if2 .left)) at (q .loop .inv .1)))
 
 returns-3 : tie.Need-returns-3 Inv-loop μ-loop
-unfolding sameName
-returns-3 c = rw (same-end (c .before .before .before .args .a .now) (c .before .before .before .args .b .now) (c .before .loop .i) (omega arith) (omega arith)) at (c .before .loop .inv .1)
+returns-3 c = let s = c .before .before .before .before .before in
+    rw (same-end alike (s .args .a .now) (s .args .b .now) (c .before .loop .i) (omega arith) (omega arith)) at (c .before .loop .inv .1)
 
 pub same-name-spec : {M : Type 1} → statement M
 same-name-spec =
@@ -44,7 +43,7 @@ same-name-spec =
     μ-loop
     returns
     loop-holds
-    (λ c. search needs) (λ c. search needs)
+    (λ c. search needs) (λ c. search needs) (λ c κs. search needs)
     returns-2
     (λ c. search needs) (λ c. search needs)
     loop-again
