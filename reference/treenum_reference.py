@@ -12,7 +12,7 @@ texts are bytes.
 
 treenum_lines(bytes) gives what the program treenum prints for these bytes.
 
-Quotations are document 01's sentences.
+Quotations are document 01's sentences; of spellings, those of document 02, request (a).
 
 Run with --self-test: compares with document 01's own numbers, and with trees, terms and texts that are listed
 one by one.
@@ -313,7 +313,9 @@ def write(states, rows, accepting, number, lent):
 
 # Names lists
 
-LETTERS = b'ABCDEFGHIJKLMNOPQRSTUVWXYZabcdefghijklmnopqrstuvwxyz'
+CAPITALS = b'ABCDEFGHIJKLMNOPQRSTUVWXYZ'
+SMALL = b'abcdefghijklmnopqrstuvwxyz'
+LETTERS = CAPITALS + SMALL
 DIGITS = b'0123456789'
 
 
@@ -324,6 +326,19 @@ def name_pattern(longest):
 
 # 'A name is 1 to 24 bytes'
 NAME = name_pattern(24)
+
+# Each letter with the same letter in the other case, A with a to Z with z and back. No other byte has another case.
+OTHER_CASE = {*zip(CAPITALS, SMALL), *zip(SMALL, CAPITALS)}
+
+
+def alike(one, other):
+    """Whether two bytes are the same but for the case of an ASCII letter."""
+    return one == other or (one, other) in OTHER_CASE
+
+
+def equal(one, other):
+    """'Two names shall be equal if they differ only in the case of ASCII letters.': byte by byte."""
+    return len(one) == len(other) and all(map(alike, one, other))
 
 
 def lines_of(names):
@@ -338,7 +353,8 @@ def names_fault(names):
         return 0
     for k, line in enumerate(lines):
         # 'of equal names the later line is faulty, and so are a 256th line and a last line without byte 10'
-        if not line.endswith(b'\n') or not NAME.fullmatch(line[:-1]) or line in lines[:k] or k + 1 >= 256:
+        if (not line.endswith(b'\n') or not NAME.fullmatch(line[:-1]) or k + 1 >= 256
+                or any(equal(line, earlier) for earlier in lines[:k])):
             return k
     return None
 
@@ -395,9 +411,14 @@ def nodes_of(term):
         waiting.extend(reversed(node.children))
 
 
-def entries_of(term, names):
+def symbols_of(term, names):
+    """'Reading takes either spelling.': the symbol of each name of the term that is listed, by its spelling there."""
+    spellings = {node.name for node in nodes_of(term)}
+    return {spelling: k + 1 for k, name in enumerate(names) for spelling in spellings if equal(spelling, name)}
+
+
+def entries_of(term, symbols):
     """'the symbol of a node, its children one after another, then the bar, which is entry 0'"""
-    symbols = {name: k + 1 for k, name in enumerate(names)}
     bar = object()
     entries = []
     waiting = [term]
@@ -432,13 +453,13 @@ def read_term(names, text, lent):
         return refused(19, term), same
 
     # 'A name not listed is 20, at its first byte, the earliest such name.'
-    listed = names_of(names)
+    symbols = symbols_of(term, names_of(names))
     for node in nodes_of(term):
-        if node.name not in listed:
+        if node.name not in symbols:
             return refused(20, node.place), same
 
     # 'A tree above 4,096 entries is 21.'
-    tree = entries_of(term, listed)
+    tree = entries_of(term, symbols)
     if len(tree) > 4096:
         return refused(21), same
 
@@ -449,7 +470,7 @@ def read_term(names, text, lent):
 
 
 def text_of(tree, names):
-    """The term of a well-formed tree.
+    """The term of a well-formed tree, 'in the list's spelling'.
 
     'A term is a name, or a name followed by `(`, one or more terms with `,` between them, and `)`.'
     """
@@ -788,6 +809,55 @@ def term_of(node):
     return node.name + (b'(' + b','.join(map(term_of, node.children)) + b')' if node.children else b'')
 
 
+def spellings_of(text):
+    """The text with each letter in either case."""
+    return map(bytes, itertools.product(*({byte, *bytes([byte]).swapcase()} for byte in text)))
+
+
+def spelled(tree):
+    """The term of a tree that has names for symbols."""
+    name, children = tree
+    return name + (b'(' + b','.join(map(spelled, children)) + b')' if children else b'')
+
+
+def spelling_tests(expect):
+    # All pairs of bytes: alike are those that are the same, or lie 32 apart with the lower one from 65 to 90, A to Z.
+    expect('bytes that are alike', {pair for pair in itertools.product(range(256), repeat=2) if alike(*pair)},
+           {(one, other) for one in range(256) for other in range(256)
+            if one == other or abs(one - other) == 32 and 65 <= min(one, other) <= 90})
+    for one, other in (b'@`', b'[{', b'_\x7f', b'\0 ', b'-\r', b'-M', b'-m', b'0P', b'0p', b'-_', b'\xc1\xe1'):
+        expect(f'bytes {one} and {other}', alike(one, other) or alike(other, one), False)
+    for one, other in (b'Aa', b'Mm', b'Zz'):
+        expect(f'bytes {one} and {other}', alike(one, other) and alike(other, one), True)
+    # Names: bytes.lower(), which changes the 26 capitals alone, makes equal ones the same.
+    expect('what lower() changes', [byte for byte in range(256) if bytes([byte]).lower() != bytes([byte])], list(range(65, 91)))
+    short = [name for name in map(bytes, all_lists(b'aAbB1', 3)) if Grammar(3).is_name(name)]
+    expect('short names', [pair for pair in itertools.product(short, repeat=2) if equal(*pair) != (pair[0].lower() == pair[1].lower())], [])
+    # Names of two bytes: one listed after another, and one read where another is listed.
+    wrong = []
+    for one, other in itertools.product(LETTERS + DIGITS + b'-_', repeat=2):
+        one, other = b'k%c' % one, b'K%c' % other
+        same = one.lower() == other.lower()
+        if names_fault(one + b'\n' + other + b'\n') != (1 if same else None):
+            wrong.append((one, other))
+        if read_term(one + b'\n', other, [7] * 3) != ((('result', 2), [1, 0, 7]) if same else (refused(20), [7] * 3)):
+            wrong.append((one, other))
+    expect('names of two bytes', wrong, [])
+    # 'Reading a written term still gives the tree; writing a read term gives the text in the list's spelling.'
+    wrong = []
+    for listed in ((b'a', b'b'), (b'A', b'B'), (b'b', b'A'), (b'a1', b'B-')):
+        names = b'%b\n%b\n' % listed
+        known = {}
+        for tree in itertools.chain.from_iterable(all_trees(listed, nodes, known) for nodes in range(1, 5)):
+            text = spelled(tree)
+            entries = [0 if name == 0 else listed.index(name) + 1 for name in list_of(tree)]
+            if write_term(names, entries, b'!' * 30) != (('result', len(text)), text + b'!' * (30 - len(text))):
+                wrong.append(text)
+            wrong += [spelling for spelling in spellings_of(text)
+                      if read_term(names, spelling, [9] * 10) != (('result', len(entries)), entries + [9] * (10 - len(entries)))]
+    expect('spellings there and back', wrong, [])
+
+
 def term_tests(expect):
     # Every short text, with names of at most 2 bytes: its place, or its nodes.
     grammar = Grammar(2)
@@ -835,7 +905,7 @@ def term_tests(expect):
 
     # Every short names list: a line is faulty or not by its bytes, its place and the lines before it.
     wrong = []
-    for names in map(bytes, all_lists(b'aB1\n!', 6)):
+    for names in map(bytes, itertools.chain(all_lists(b'aA1\n!', 6), all_lists(b'aAbB\n', 6))):
         lines, faulty = [b''], None
         for byte in names:
             lines[-1] += bytes([byte])
@@ -844,7 +914,8 @@ def term_tests(expect):
         if lines[-1] == b'':
             lines.pop()
         for k in reversed(range(len(lines))):
-            if lines[k][-1:] != b'\n' or lines[k] in lines[:k] or not Grammar(24).is_name(lines[k][:-1]):
+            earlier = [line.lower() for line in lines[:k]]
+            if lines[k][-1:] != b'\n' or lines[k].lower() in earlier or not Grammar(24).is_name(lines[k][:-1]):
                 faulty = k
         if names_fault(names) != (0 if names == b'' else faulty):
             wrong.append(names)
@@ -903,7 +974,11 @@ def line_tests(expect):
         expect(f'treenum on {text[:40]}', treenum_lines(text), printed)
     for k in range(12):
         term = treenum_lines(b'%d\n' % k)
-        expect(f'treenum on {k}, there and back', treenum_lines(term), b'%d\n' % k)
+        expect(f'treenum on {k}, in small letters', term, term.lower())
+        expect(f'treenum on {k}, there and back', {treenum_lines(spelling) for spelling in spellings_of(term)}, {b'%d\n' % k})
+    # of request (a), and names that are listed in no spelling
+    expect('treenum on spellings', treenum_lines(b'A(a,a)\nB(A,B)\nA\nB(a,A)\nA(\nC\na(A,AB)\n'),
+           b'0\n1\nrefused 14 1\nrefused 14 5\nrefused 19 2\nrefused 20 0\nrefused 20 4\n')
 
 
 def self_test():
@@ -961,6 +1036,7 @@ def self_test():
 
     tree_tests(expect)
     term_tests(expect)
+    spelling_tests(expect)
     line_tests(expect)
 
     print(f'reference: {tried} self tests, {failed} failed')
