@@ -11,7 +11,7 @@ import sys
 from collections import Counter
 
 from table_cases import Draw
-from term_cases import edited_text
+from term_cases import edited_text, respelled
 from treenum_reference import treenum_line, treenum_lines
 
 TERMS = [b'a(a,a)', b'b(a,b)', b'a(a(a,a),a(a,a))', b'a(a(a,a),b(a,b))', b'a(b(a,b),a(a,a))', b'a(b(a,b),b(a,b))', b'b(a(a,a),a(b,a),b)',
@@ -31,6 +31,11 @@ def edges():
         for zeros in (0, 1, 2, 19, 20, 21, 4094, 4095, 4096, 4097):
             if k in (0, 11) or zeros < 20:
                 yield b'0' * zeros + number, term
+    # terms in other spellings
+    yield from ((b'A(a,a)', b'0'), (b'B(A,B)', b'1'), (b'a(A,a)', b'0'), (b'a(a,A)', b'0'), (b'b(a,B)', b'1'), (b'B(b(A,b),a(B,b),B)', b'10'))
+    for k, term in enumerate(TERMS):
+        for spelling in (term.upper(), term.replace(b'a', b'A'), term.replace(b'b', b'B'), term.replace(b',a', b',A')):
+            yield spelling, b'%d' % k
     # numbers of any length from 12 up; those that are below 12 where 8, 16, 32 or 64 bits are kept
     for number in (12, 13, 19, 20, 99, 100, 110, 255, 256, 257, 267, 65536, 65537, 99999, 2 ** 32, 2 ** 32 + 3, 2 ** 64 - 1, 2 ** 64, 2 ** 64 + 7,
                    2 ** 128, 2 ** 128 + 11, 10 ** 19, 10 ** 20, 10 ** 40):
@@ -50,21 +55,26 @@ def edges():
                          (b'a(' + b'a,' * 2046 + b'a)', b'refused 14 4095'), (b'a(' + b'a,' * 2046 + b'c)', b'refused 20 4094'),
                          (b'a(' + b'a,' * 2046 + b'ab)', b'refused 18 0'), (b'a(' * 2048, b'refused 19 4096'), (b'a(' * 2048 + b'a', b'refused 18 0'),
                          (b'a(' * 1365 + b'a' + b')' * 1365, b'refused 14 1367'), (b'\0' * 5000, b'refused 18 0'), (b'\xff' * 4096, b'refused 19 0'),
-                         (b' ' * 70000, b'refused 18 0'), (b'c(' * 65536, b'refused 18 0')):
+                         (b' ' * 70000, b'refused 18 0'), (b'c(' * 65536, b'refused 18 0'), (b'A(' + b'B,a,' * 1023 + b'A)', b'refused 14 4095'),
+                         (b'A(' + b'B,a,' * 1023 + b'C)', b'refused 20 4094'), (b'A' * 4096, b'refused 19 24'), (b'A' * 4097, b'refused 18 0')):
         yield line, answer
     # no terms; only byte 10 ends a line
     for line, place in ((b'', 0), (b'', 0), (b' ', 0), (b'\r', 0), (b'\0', 0), (b'\x7f', 0), (b'\x80', 0), (b'\xff', 0), (b'a(a,a)\r', 6), (b'a(a,a)\0', 6),
                         (b'a(a,a) ', 6), (b' a(a,a)', 0), (b'a(a,a', 5), (b'a(a,a))', 6), (b'a(a,)', 4), (b'a()', 2), (b'a(,a)', 2), (b'a\0', 1),
                         (b'a(a,a)a', 6), (b'a(a,a),a(a,a)', 6), (b'a(a,\xe1)', 4), (b'\xe1', 0), (b'a(a;a)', 3), (b'a\x0ba', 1), (b'a\x85', 1), (b'a\xa0', 1),
-                        (b'zz(', 3), (b'c()', 2), (b'a(c', 3), (b'abcdefghijklmnopqrstuvwxy', 24)):
+                        (b'zz(', 3), (b'c()', 2), (b'a(c', 3), (b'abcdefghijklmnopqrstuvwxy', 24), (b'ABCDEFGHIJKLMNOPQRSTUVWXY', 24),
+                        (b'A(', 2), (b'A()', 2), (b'A(a,B', 5), (b'C(', 2), (b'@', 0), (b'[', 0), (b'`', 0), (b'{', 0), (b'A@', 1), (b'A[', 1),
+                        (b'A`', 1), (b'A{', 1), (b'A\x7f', 1), (b'A(a,\xc1)', 4), (b'!', 0), (b'"', 0), (b'\x01', 0)):
         yield line, b'refused 19 %d' % place
     # names that are not listed
-    for line, place in ((b'A', 0), (b'B', 0), (b'aa', 0), (b'ab', 0), (b'a(a,c)', 4), (b'a(c,d)', 2), (b'c(a,a)', 0), (b'a(A,a)', 2), (b'a(a,a1)', 4),
-                        (b'a(a,b-)', 4), (b'b_(a,b)', 0), (b'abcdefghijklmnopqrstuvwx', 0), (b'b(b(a,b),a(b,b),c)', 16)):
+    for line, place in ((b'C', 0), (b'D', 0), (b'aa', 0), (b'ab', 0), (b'a(a,c)', 4), (b'a(c,d)', 2), (b'c(a,a)', 0), (b'a(C,a)', 2), (b'a(a,a1)', 4),
+                        (b'a(a,b-)', 4), (b'b_(a,b)', 0), (b'abcdefghijklmnopqrstuvwx', 0), (b'b(b(a,b),a(b,b),c)', 16), (b'AA', 0), (b'Ab', 0),
+                        (b'A(a,C)', 4), (b'A(A,c)', 4), (b'C(A,A)', 0), (b'A(A1,c)', 2), (b'B-', 0), (b'ABCDEFGHIJKLMNOPQRSTUVWX', 0)):
         yield line, b'refused 20 %d' % place
     # terms that are not accepted
     for line, place in ((b'b', 1), (b'a(b,a)', 5), (b'a(a)', 3), (b'a(a,b)', 5), (b'a(a,a,a)', 7), (b'b(b,a)', 5), (b'a(a(a,b),b(a))', 6),
-                        (b'b(a(a,a),a(b,a))', 13), (b'b(a(a,a),a(b,a),a)', 15), (b'a(a(a,a),a(b,a))', 13), (b'a(b(b,b),b(a))', 10)):
+                        (b'b(a(a,a),a(b,a))', 13), (b'b(a(a,a),a(b,a),a)', 15), (b'a(a(a,a),a(b,a))', 13), (b'a(b(b,b),b(a))', 10),
+                        (b'A', 1), (b'B', 1), (b'A(B,a)', 5), (b'B(A,A)', 5), (b'B(A(a,A),a(B,A),A)', 15), (b'A(b(B,b),B(A))', 10)):
         yield line, b'refused 14 %d' % place
 
 
@@ -77,7 +87,7 @@ def some_term(draw, names, depth):
 
 
 def drawn(draw, count):
-    names = [b'a', b'b'] * 20 + [b'c', b'aa', b'B']
+    names = [b'a', b'b'] * 20 + [b'c', b'aa', b'C']
     for _ in range(count):
         kind = draw.below(10)
         if kind < 2:
@@ -92,7 +102,7 @@ def drawn(draw, count):
             line = bytes(draw.below(256) for _ in range(draw.between(0, 12)))
         else:
             line = some_term(draw, names, draw.between(4, 7))
-        yield line.replace(b'\n', b'')
+        yield respelled(draw, line, [0, 0, 0.1, 0.5, 1]).replace(b'\n', b'')
 
 
 LAST = b'b(a,b)'

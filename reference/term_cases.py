@@ -8,11 +8,20 @@ READ, WRITE = 4, 5
 
 AB = b'a\nb\n'
 LONG = b'abcdefghijklmnopqrstuvw'   # 23 bytes
+CAPITALS = b'ABCDEFGHIJKLMNOPQRSTUVWXYZ'
+SMALL = b'abcdefghijklmnopqrstuvwxyz'
+LETTERS = CAPITALS + SMALL
+OTHERS = b'0123456789-_'
 
 
 def many_names(count):
     """So many names of two bytes."""
     return b''.join(bytes([97 + k // 20, 97 + k % 20]) + b'\n' for k in range(count))
+
+
+def over_leaves(root, leaves):
+    """The tree of a root over leaves."""
+    return [root, *(entry for leaf in leaves for entry in (leaf, 0)), 0]
 
 
 def room(count):
@@ -32,10 +41,21 @@ FAULTY_NAMES = [
     # equal names, and faults before and after them
     (b'a\na\n', 1), (b'a\nb\na\n', 2), (b'a\nb\nb\na\n', 2), (b'a\na', 1), (b'ab\na\nab\n', 2), (b'a\na\n1\n', 1), (b'a\n1\na\n', 1),
     (LONG + b'x\n' + LONG + b'y\n' + LONG + b'x\n', 2),
+    # names that differ only in the case of letters: each letter, and some
+    *((b'%c\n%c\n' % pair, 1) for pair in zip(CAPITALS, SMALL)), *((b'k%c\nk%c\n' % pair, 1) for pair in zip(SMALL, CAPITALS)),
+    (b'Probe\nprobe\n', 1), (b'probe\nshut\nPROBE\n', 2), (b'a\nA\na\n', 1), (b'a\nb\nA\nB\n', 2), (b'A\nb\nB\na\n', 2),
+    (b'aB\nab\nAb\nAB\n', 1), (b'b\naB\nAb\nab\n', 2), (b'x1-a\nX1-b\nx1_A\nx1-A\n', 3), (b'ab\nA\naB\n', 2), (b'a-Z9\nb\nA-z9\n', 2),
+    # the same, and other faults before and after them
+    (b'a\nA\n1\n', 1), (b'a\n1\nA\n', 1), (b'1\na\nA\n', 0), (b'a\nA\n\n', 1), (b'a\nb\n\nA\n', 2), (b'a\nA', 1), (b'a\nb\nA', 2),
+    (b'a\nb\nA\nb\n', 2), (b'a\nb\nb\nA\n', 2), (b'a\nA\n' + LONG + b'xy\n', 1), (LONG + b'xy\na\nA\n', 0),
+    # the same, of 24 bytes, that differ in the last byte, the first, all; of 24 and 25, and of 25
+    (LONG + b'x\n' + LONG + b'X\n', 1), (LONG + b'x\nA' + LONG[1:] + b'x\n', 1), (LONG.upper() + b'X\nb\n' + LONG + b'x\n', 2),
+    (LONG + b'x\n' + LONG + b'y\n' + LONG + b'X\n', 2), (LONG + b'x\n' + LONG.upper() + b'XY\n', 1), (b'a\n' + LONG + b'xy\n' + LONG + b'xY\n', 1),
     # bytes that cannot begin a name, or stand in one
     (b'1\n', 0), (b'-\n', 0), (b'_a\n', 0), (b'@\n', 0), (b'[\n', 0), (b'`\n', 0), (b'{\n', 0), (b'a\n9b\n', 1), (b' a\n', 0),
     (b'a \n', 0), (b'a b\n', 0), (b'a\r\n', 0), (b'a\t\n', 0), (b'a,\nb\n', 0), (b'b\na.\n', 1), (b'a/\n', 0), (b'a:\n', 0),
     (b'a@\n', 0), (b'a[\n', 0), (b'a^\n', 0), (b'a`\n', 0), (b'a{\n', 0), (b'a(\n', 0), (b'a)\n', 0),
+    (b'\x7f\n', 0), (b'a\x7f\n', 0), (b'a_\na\x7f\n', 1), (b'a-\na\r\n', 1), (b'a0\na\x10\n', 1), (b'a]\n', 0), (b'a}\n', 0), (b'a|\n', 0), (b'a~\n', 0),
     (b'\0\n', 0), (b'a\0\n', 0), (b'a\nb\0', 1), (b'\x80\n', 0), (b'a\xff\n', 0), (b'\xc3\xa9\n', 0), (b'a\nb\xe1\n', 1),
     (b'a\nb\x8a', 1), (b'\xe1\n', 0),
     # lengths
@@ -45,10 +65,17 @@ FAULTY_NAMES = [
     (many_names(256), 255), (many_names(257), 255), (many_names(300), 255), (many_names(256)[:-1], 255), (many_names(255)[:-1], 254),
     (many_names(255) + b'1\n', 255), (many_names(255) + b'\n', 255), (many_names(255) + b'aa\n', 255), (many_names(255) + b'x', 255),
     (many_names(3) + b'-\n' + many_names(300), 3), (many_names(254) + many_names(254), 254),
+    (many_names(254) + b'AA\n', 254), (many_names(254) + b'mN\n', 254), (many_names(255) + b'AA\n', 255), (b'AA\n' + many_names(254), 1),
 ]
 
-NAMES = [b'a\n', AB, b'A\na\n', b'a-_9\nZ0\nz-\n', b'a\nab\nabc\n', b'abc\nab\na\n', LONG + b'x\n', LONG + b'x\n' + LONG + b'y\n',
-         b'a--\na__\na00\n', b'Z\nz\n', many_names(255), many_names(254)]
+# names with each byte that can stand in one, of letters the small one
+NEAR = [b'a%c' % byte for byte in SMALL + OTHERS]
+
+NAMES = [b'a\n', AB, b'A\nB\n', b'A\nb\n', b'a-_9\nZ0\nz-\n', b'a\nab\nabc\n', b'abc\nAb\na\n', LONG + b'x\n', LONG + b'X\n' + LONG + b'y\n',
+         b'a--\na__\na00\n', b'Z\nY\n', many_names(255), many_names(254), many_names(255).upper(),
+         # a letter and another byte that lie 16, 32 or 64 apart
+         b'aP\na0\n', b'ap\na0\n', b'a9\naY\n', b'a9\nay\n', b'aM\na-\n', b'a-\nam\n', b'a-\na_\n', b'aO\na_\n', b'a_\nao\n',
+         LONG + b'P\n' + LONG + b'0\n', LONG + b'-\n' + LONG + b'm\n']
 
 # texts that are no terms over any names, with their places
 NO_TERMS = [
@@ -63,11 +90,16 @@ NO_TERMS = [
     (b'a\x80', 1), (b'a(\xff', 2), (b'a\xe1', 1), (b'a(a\xa8a)', 3), (b'a(a)\xac', 4),
     (b'a(1)', 2), (b'a(a,1)', 4), (b'a(-)', 2), (b'a(_a)', 2), (b'a(a;a)', 3), (b'a[a]', 1), (b'a.a', 1), (b'a/', 1), (b'a:', 1),
     (b'a@', 1), (b'a^', 1), (b'a`', 1), (b'a{', 1), (b'a*', 1), (b'a+', 1), (b'a.', 1),
+    # capitals; bytes that lie beside the letters, or 32 or 64 from a byte of a name or a mark
+    (b'A(', 2), (b'A()', 2), (b'A(a,B', 5), (b'A(B))', 4), (b'A,a', 1), (b'A(a)B', 4), (b'ZZ(', 3), (b'A[', 1), (b'A{', 1), (b'A@', 1), (b'A`', 1),
+    (b'\x7f', 0), (b'a\x7f', 1), (b'A(B\x7f)', 3), (b'A(\x7f)', 2), (b'A\0', 1), (b'A(\0)', 2), (b'A(B )', 3), (b'A( B)', 2), (b'A(B\r)', 3),
+    (b'A(@)', 2), (b'A([)', 2), (b'A(`)', 2), (b'A({)', 2), (b'A(B@)', 3), (b'A(B[)', 3), (b'A(B`)', 3), (b'A(B{)', 3), (b'a]', 1), (b'a}', 1), (b'a|', 1),
+    (b'a~', 1), (b'a\x10', 1), (b'\x01', 0), (b'!', 0), (b'\xc1', 0), (b'A\xc2', 1), (b'A\x08a)', 1), (b'a(a\x0ca)', 3), (b'a(a\t', 3),
     # names that are not listed do not matter before the text is a term
     (b'zz(', 3), (b'zz(zz))', 6), (b'zz,', 2), (b'c()', 2),
     # names of 25 bytes
     (b'a' * 25, 24), (LONG + b'xy', 24), (b'a(' + LONG + b'xy)', 26), (b'a(a,' + LONG + b'xy)', 28), (LONG + b'x1(', 24), (b'a' * 280, 24),
-    (LONG + b'x(' + LONG + b'xy', 49), (LONG + b'x-', 24),
+    (LONG + b'x(' + LONG + b'xy', 49), (LONG + b'x-', 24), (b'A' * 25, 24), (LONG.upper() + b'XY', 24), (b'A(' + LONG + b'xY)', 26),
 ]
 
 # terms over a and b, and their trees
@@ -84,9 +116,36 @@ TERMS = [
 ]
 
 # texts with a name that is not among a and b, and its place
-UNLISTED = [(b'c', 0), (b'A', 0), (b'ab', 0), (b'aa', 0), (b'B(a)', 0), (b'a(c)', 2), (b'a(a,c,c)', 4), (b'c(d)', 0), (b'a(c(d),e)', 2),
+UNLISTED = [(b'c', 0), (b'C', 0), (b'ab', 0), (b'aa', 0), (b'D(a)', 0), (b'a(c)', 2), (b'a(a,c,c)', 4), (b'c(d)', 0), (b'a(c(d),e)', 2),
             (b'a(aa)', 2), (b'a(b(c))', 4), (b'a(b(a),c)', 7), (b'a(b,b-)', 4), (b'a(b,a_,c)', 4), (b'a1', 0), (b'a' * 24, 0),
-            (b'a(' + LONG + b'x)', 2), (b'a(b,a,b(a(b),zz),zz)', 13)]
+            (b'a(' + LONG + b'x)', 2), (b'a(b,a,b(a(b),zz),zz)', 13), (b'Aa', 0), (b'AB', 0), (b'A(B,C,c)', 4), (b'A(B,c,C)', 4), (b'B(a,Ab)', 4),
+            (b'A1', 0), (b'B-', 0), (b'B(A_)', 2), (b'A' * 24, 0), (b'A(b,A,B(a(b),ZZ),zz)', 13)]
+
+# names, a text with another that is near, and its place
+UNLISTED_NEAR = [(b'aP\n', b'a0', 0), (b'a0\n', b'aP', 0), (b'a0\n', b'ap', 0), (b'aM\n', b'a-', 0), (b'a-\n', b'aM', 0), (b'a-\n', b'am', 0), (b'a-\n', b'A_', 0),
+                 (b'a_\n', b'A-', 0), (b'a_\n', b'aO', 0), (b'a_\n', b'ao', 0), (b'Probe\n', b'PROBES', 0), (b'Probe\n', b'prob', 0),
+                 (b'Probe\n', b'Probe(PROBE,Prob)', 12), (LONG + b'x\n', LONG.upper() + b'Y', 0), (LONG + b'x\n', LONG.upper(), 0),
+                 (LONG + b'm\n', LONG + b'-', 0), (LONG + b'0\n', LONG.upper() + b'P', 0), (b'B' + LONG + b'\n', b'a' + LONG, 0)]
+
+# names, a text that is not in their spelling, its tree, and the tree's text
+SPELLED = [
+    (AB, b'A', [1, 0], b'a'), (AB, b'B', [2, 0], b'b'), (AB, b'A(b)', [1, 2, 0, 0], b'a(b)'), (AB, b'a(B)', [1, 2, 0, 0], b'a(b)'),
+    (AB, b'A(a,a)', [1, 1, 0, 1, 0, 0], b'a(a,a)'), (AB, b'B(A,B)', [2, 1, 0, 2, 0, 0], b'b(a,b)'), (AB, b'a(a,A)', [1, 1, 0, 1, 0, 0], b'a(a,a)'),
+    (AB, b'B(b(A,b),a(B,b),B)', [2, 2, 1, 0, 2, 0, 0, 1, 2, 0, 2, 0, 0, 2, 0, 0], b'b(b(a,b),a(b,b),b)'),
+    (b'A\nB\n', b'b(a,b)', [2, 1, 0, 2, 0, 0], b'B(A,B)'), (b'A\nB\n', b'b(A,B)', [2, 1, 0, 2, 0, 0], b'B(A,B)'),
+    (b'A\nb\n', b'B(a,b)', [2, 1, 0, 2, 0, 0], b'b(A,b)'), (b'b\nA\n', b'a(A,B)', [2, 2, 0, 1, 0, 0], b'A(A,b)'),
+    (b'Z\ny\n', b'z(Y,Z)', [1, 2, 0, 1, 0, 0], b'Z(y,Z)'),
+    (b'Probe\nshut\n', b'probe(SHUT,sHuT,Shut)', [1, 2, 0, 2, 0, 2, 0, 0], b'Probe(shut,shut,shut)'),
+    (b'probe\nSHUT\n', b'Probe(shut,pROBE)', [1, 2, 0, 1, 0, 0], b'probe(SHUT,probe)'),
+    (b'd0\nD-1_x\n', b'D0(d-1_X,D-1_x,d-1_x)', [1, 2, 0, 2, 0, 2, 0, 0], b'd0(D-1_x,D-1_x,D-1_x)'),
+    (b'a\nab\nabc\n', b'ABC(aB,A,AbC)', [3, 2, 0, 1, 0, 3, 0, 0], b'abc(ab,a,abc)'),
+    (b'ABC\nAB\nA\n', b'abc(ab,a,Abc)', [1, 2, 0, 3, 0, 1, 0, 0], b'ABC(AB,A,ABC)'),
+    (LONG + b'x\n' + LONG + b'Y\n', LONG + b'y(' + LONG + b'X,' + LONG.upper() + b'Y)', [2, 1, 0, 2, 0, 0], LONG + b'Y(' + LONG + b'x,' + LONG + b'Y)'),
+    (b'A' + LONG + b'\nb\n', b'a' + LONG + b'(B)', [1, 2, 0, 0], b'A' + LONG + b'(b)'),
+    # each byte, the list in small letters and in capitals
+    (b'\n'.join(NEAR) + b'\n', b'AA(' + b','.join(NEAR).upper() + b')', over_leaves(1, range(1, 39)), b'aa(' + b','.join(NEAR) + b')'),
+    (b'\n'.join(NEAR).upper() + b'\n', b'aa(' + b','.join(NEAR) + b')', over_leaves(1, range(1, 39)), b'AA(' + b','.join(NEAR).upper() + b')'),
+]
 
 # lists that are no trees, with their places
 NO_TREES = [
@@ -120,13 +179,18 @@ def read_edges():
     yield (READ, b'abc\nabd\n', b'ab', room(8)), 'refused 20 0', None
     yield (READ, b'ab\n', b'abc', room(8)), 'refused 20 0', None
     yield (READ, b'ab\n', b'a', room(8)), 'refused 20 0', None
-    yield (READ, b'A\na\n', b'a(A)', room(4)), 'result 4', [2, 1, 0, 0]
     yield (READ, LONG + b'x\n' + LONG + b'y\n', LONG + b'y(' + LONG + b'x,' + LONG + b'y)', room(6)), 'result 6', [2, 1, 0, 2, 0, 0]
 
     for text, place in NO_TERMS:
         yield (READ, AB, text, room(6)), f'refused 19 {place}', None
     for text, place in UNLISTED:
         yield (READ, AB, text, room(6)), f'refused 20 {place}', None
+    for names, text, place in UNLISTED_NEAR:
+        yield (READ, names, text, room(6)), f'refused 20 {place}', None
+    for names, text, tree, _ in SPELLED:
+        n = len(tree)
+        yield (READ, names, text, room(n + 1)), f'result {n}', tree + room(n + 1)[n:]
+        yield (READ, names, text, room(n - 1)), f'refused 22 {n}', None
     # lists from none to longer than needed
     for text, tree in TERMS:
         n = len(tree)
@@ -157,8 +221,11 @@ def read_edges():
         [1] * 2048 + [0] * 2048 + room(4100)[4096:]
     names = many_names(255)
     each = names.split(b'\n')[:-1]
-    yield (READ, names, b'aa(' + b','.join(each * 8) + b')', room(4083)), 'result 4082', \
-        [1] + [entry for symbol in list(range(1, 256)) * 8 for entry in (symbol, 0)] + [0] + room(4083)[4082:]
+    yield (READ, names, b'aa(' + b','.join(each * 8) + b')', room(4083)), 'result 4082', over_leaves(1, [*range(1, 256)] * 8) + room(4083)[4082:]
+    for listed, text in ((names, b'AA(' + b','.join(each).upper() + b')'), (names.upper(), b'Aa(' + b','.join(each) + b')')):
+        yield (READ, listed, text, room(513)), 'result 512', over_leaves(1, range(1, 256)) + room(513)[512:]
+    yield (READ, AB, b'A(' + b'a,B,' * 1023 + b'b)', room(4100)), 'result 4096', [1] + [1, 0, 2, 0] * 1023 + [2, 0, 0] + room(4100)[4096:]
+    yield (READ, b'A\nb\n', b'A(a(' * 1023 + b'B(b' + b')' * 2047, room(4096)), 'result 4096', [1] * 2046 + [2, 2] + [0] * 2048
 
     # 65,536 and 65,537 bytes
     wide, deep = b'a(' + b'a,' * 32766 + b'a)', b'a(' * 21845 + b'b' + b')' * 21845
@@ -170,6 +237,8 @@ def read_edges():
         yield (READ, AB, text[:-1], room(9)), f'refused 19 {len(text) - 1}', None
         yield (READ, AB, b'c' + text[1:], room(9)), 'refused 20 0', None
     yield (READ, AB, wide[:-2] + b'c)', room(9)), 'refused 20 65534', None
+    yield (READ, AB, wide[:-2] + b'C)', room(9)), 'refused 20 65534', None
+    yield (READ, AB, b'A(' + b'B,a,' * 16383 + b'A)', room(9)), 'refused 21 0', None
     yield (READ, AB, wide[:-1] + b'b)', room(9)), 'refused 18 0', None
     yield (READ, AB, b'a(' * 32768, room(9)), 'refused 19 65536', None
     yield (READ, AB, b'a(' * 32768 + b'a', room(9)), 'refused 18 0', None
@@ -182,9 +251,12 @@ def read_edges():
     yield (READ, b'a\na\n', b'(' * 65537, []), 'refused 17 1', None
     yield (READ, b'', b'', []), 'refused 17 0', None
     yield (READ, b'a\n1\n', b'c(', []), 'refused 17 1', None
+    yield (READ, b'a\nA\n', b'(' * 65537, []), 'refused 17 1', None
     yield (READ, AB, b'c()', []), 'refused 19 2', None
     yield (READ, AB, b'a(c,a', []), 'refused 19 5', None
     yield (READ, AB, b'a(c)', []), 'refused 20 2', None
+    yield (READ, AB, b'A(C,', []), 'refused 19 4', None
+    yield (READ, AB, b'A(C)', []), 'refused 20 2', None
 
 
 def write_edges():
@@ -209,6 +281,11 @@ def write_edges():
             else:
                 yield (WRITE, AB, tree, blank(count)), f'result {n}', text + blank(count)[n:]
     yield (WRITE, b'x\n', [1, 1, 0, 0], bytes([0, 10, 255, 120, 0, 255])), 'result 4', b'x(x)\0\xff'
+    # in the list's spelling
+    for names, _, tree, text in SPELLED:
+        n = len(text)
+        yield (WRITE, names, tree, blank(n + 1)), f'result {n}', text + blank(n + 1)[n:]
+        yield (WRITE, names, tree, blank(n - 1)), f'refused 24 {n}', None
 
     # 4,096 entries, and more
     long = LONG + b'x\n'
@@ -240,6 +317,7 @@ def write_edges():
 
     # the order: 17, 12, 13, 23, 24
     yield (WRITE, b'a\na\n', [256] * 4097, b''), 'refused 17 1', None
+    yield (WRITE, b'a\nA\n', [256] * 4097, b''), 'refused 17 1', None
     yield (WRITE, b'', [], b''), 'refused 17 0', None
     yield (WRITE, AB, [3] * 4097, b''), 'refused 12 0', None
     yield (WRITE, AB, [3, 0, 0], b''), 'refused 13 2', None
@@ -254,23 +332,32 @@ def edges():
 
 # Drawn terms
 
-LETTERS = b'ABCDEFGHIJKLMNOPQRSTUVWXYZabcdefghijklmnopqrstuvwxyz'
-OTHERS = b'0123456789-_'
-
-
 def some_name(draw, letters):
     count = draw.pick([1, 1, 2, 2, 3, 4, 6, 9, 23, 24])
     return bytes(draw.pick(letters if i == 0 or draw.chance(0.7) else OTHERS) for i in range(count))
 
 
+def near_name(draw, name):
+    """The name with another byte in one place."""
+    at = draw.below(len(name))
+    return name[:at] + bytes([draw.pick(LETTERS + OTHERS if at > 0 else LETTERS)]) + name[at + 1:]
+
+
 def some_names(draw, count):
+    """So many names, all different in every spelling."""
     letters = draw.pick([b'ab', b'abcXYZ', LETTERS, LETTERS])
     names = []
     while len(names) < count:
-        name = some_name(draw, letters)
-        if name not in names:
+        name = near_name(draw, draw.pick(names)) if names and draw.chance(0.1) else some_name(draw, letters)
+        if name.lower() not in [other.lower() for other in names]:
             names.append(name)
     return names
+
+
+def respelled(draw, text, chances):
+    """The text with letters in the other case, each with the chance that is picked."""
+    chance = draw.pick(chances)
+    return bytes(byte ^ 32 if byte in LETTERS and draw.chance(chance) else byte for byte in text)
 
 
 def some_tree(draw, names, nodes):
@@ -308,11 +395,11 @@ def edited(draw, items, values):
 
 
 def edited_names(draw, names):
-    return bytes(edited(draw, names, b'\n\n\naabZ19-_ ,(\0\r\x80\xff' + names))
+    return bytes(edited(draw, names, b'\n\n\naabZ19-_ ,(@[`{\x7f\0\r\x80\xff' + names))
 
 
 def edited_text(draw, text):
-    return bytes(edited(draw, text, b'(((),,,aabZ19-_ \n\0\x80\xff' + text))
+    return bytes(edited(draw, text, b'(((),,,aabZ19-_ @[`{\x7f\n\0\x80\xff' + text))
 
 
 def edited_tree(draw, tree, count):
@@ -327,7 +414,9 @@ def some_room(draw, needed):
 
 
 def drawn(draw, count):
-    """Each term read, and its tree written back. Of one in four the names, the text or the tree are edited, once or twice."""
+    """Each term read, in its names' spelling or another, and its tree written back. Of one in four the names, the text or the tree are
+    edited, once or twice. Now and then two names are listed that differ at most in the case of letters.
+    """
     for n in range(count):
         if n % 150 == 149:
             names = some_names(draw, draw.pick([1, 2, 5]))
@@ -340,7 +429,11 @@ def drawn(draw, count):
             nodes = draw.pick([1, 2, 3, 4, 5, 6, 7, 8, 10, 14, 20])
         text, tree = some_tree(draw, names, nodes)
         entries, size = len(tree), len(text)
-        listed = b''.join(name + b'\n' for name in names)
+        text = respelled(draw, text, [0, 0, 0.1, 0.5, 1])
+        lines = list(names)
+        if draw.chance(0.04):
+            lines.insert(draw.between(0, len(names)), respelled(draw, draw.pick(names), [0.2, 0.5, 1]))
+        listed = b''.join(name + b'\n' for name in lines)
         if n % 4 == 3:
             for _ in range(draw.between(1, 2)):
                 which = draw.below(5)
