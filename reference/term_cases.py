@@ -122,9 +122,9 @@ UNLISTED = [(b'c', 0), (b'C', 0), (b'ab', 0), (b'aa', 0), (b'D(a)', 0), (b'a(c)'
             (b'A1', 0), (b'B-', 0), (b'B(A_)', 2), (b'A' * 24, 0), (b'A(b,A,B(a(b),ZZ),zz)', 13)]
 
 # names, a text with another that is near, and its place
-UNLISTED_NEAR = [(b'aP\n', b'a0', 0), (b'a0\n', b'aP', 0), (b'a0\n', b'ap', 0), (b'aM\n', b'a-', 0), (b'a-\n', b'aM', 0), (b'a-\n', b'am', 0), (b'a-\n', b'A_', 0),
-                 (b'a_\n', b'A-', 0), (b'a_\n', b'aO', 0), (b'a_\n', b'ao', 0), (b'Probe\n', b'PROBES', 0), (b'Probe\n', b'prob', 0),
-                 (b'Probe\n', b'Probe(PROBE,Prob)', 12), (LONG + b'x\n', LONG.upper() + b'Y', 0), (LONG + b'x\n', LONG.upper(), 0),
+UNLISTED_NEAR = [(b'aP\n', b'a0', 0), (b'a0\n', b'aP', 0), (b'a0\n', b'ap', 0), (b'aM\n', b'a-', 0), (b'a-\n', b'aM', 0), (b'a-\n', b'am', 0),
+                 (b'a-\n', b'A_', 0), (b'a_\n', b'A-', 0), (b'a_\n', b'aO', 0), (b'a_\n', b'ao', 0), (b'Probe\n', b'PROBES', 0),
+                 (b'Probe\n', b'prob', 0), (b'Probe\n', b'Probe(PROBE,Prob)', 12), (LONG + b'x\n', LONG.upper() + b'Y', 0), (LONG + b'x\n', LONG.upper(), 0),
                  (LONG + b'm\n', LONG + b'-', 0), (LONG + b'0\n', LONG.upper() + b'P', 0), (b'B' + LONG + b'\n', b'a' + LONG, 0)]
 
 # names, a text that is not in their spelling, its tree, and the tree's text

@@ -39,6 +39,24 @@ static const struct test {
     {"25 bytes", BYTES("a\nb\n"), BYTES("a(aaaaabbbbbaaaaabbbbbaaaaa)"), LIST(0), 40, TREENUM_NOT_A_TERM, 26},
     {"24 bytes", BYTES("a\naaaaabbbbbaaaaabbbbbaaaa\n"), BYTES("a(aaaaabbbbbaaaaabbbbbaaaa)"), LIST(1, 2, 0, 0), 40, TREENUM_RESULT, 4},
     {"a name not listed", BYTES("a\nb\n"), BYTES("a(b,c,d)"), LIST(0), 40, TREENUM_UNLISTED_NAME, 4},
+    {"capitals", BYTES("a\nb\n"), BYTES("B(A,b)"), LIST(2, 1, 0, 2, 0, 0), 40, TREENUM_RESULT, 6},
+    {"a list in capitals", BYTES("A\nB\n"), BYTES("b(a,B)"), LIST(2, 1, 0, 2, 0, 0), 40, TREENUM_RESULT, 6},
+    {"several spellings", BYTES("Probe\nd-0_X\n"), BYTES("probe(D-0_x,PROBE,d-0_X)"), LIST(1, 2, 0, 1, 0, 2, 0, 0), 40, TREENUM_RESULT, 8},
+    {"capitals, an entry short", BYTES("a\nb\n"), BYTES("A(a)"), LIST(0), 3, TREENUM_SHORT_TERM_TREE, 4},
+    {"24 bytes in another spelling", BYTES("aaaaabbbbbaaaaabbbbbaaaA\nB\n"), BYTES("Aaaaabbbbbaaaaabbbbbaaaa(b)"), LIST(1, 2, 0, 0), 40,
+     TREENUM_RESULT, 4},
+    {"25 bytes in another spelling", BYTES("aaaaabbbbbaaaaabbbbbaaaa\n"), BYTES("AAAAABBBBBAAAAABBBBBAAAAA"), LIST(0), 40,
+     TREENUM_NOT_A_TERM, 24},
+    {"names equal but for the case of letters", BYTES("f\ng\nF\n"), BYTES("f"), LIST(0), 40, TREENUM_FAULTY_NAMES, 2},
+    {"the same, after another fault", BYTES("f\n1\nF\n"), BYTES("f"), LIST(0), 40, TREENUM_FAULTY_NAMES, 1},
+    {"the same, before another fault", BYTES("Probe\nprobe\n1\n"), BYTES("probe"), LIST(0), 40, TREENUM_FAULTY_NAMES, 1},
+    {"24 bytes, equal but for the case of the last", BYTES("aaaaabbbbbaaaaabbbbbaaaa\naaaaabbbbbaaaaabbbbbaaaA\n"), BYTES("b"), LIST(0), 40,
+     TREENUM_FAULTY_NAMES, 1},
+    {"other bytes have no case", BYTES("a0\naP\na-\naM\na_\naO\n"), BYTES("am(A-,ao,a_,ap,A0)"), LIST(4, 3, 0, 6, 0, 5, 0, 2, 0, 1, 0, 0), 40,
+     TREENUM_RESULT, 12},
+    {"a name listed in no spelling", BYTES("a\nb\n"), BYTES("A(B,C,c)"), LIST(0), 40, TREENUM_UNLISTED_NAME, 4},
+    {"a digit for a letter", BYTES("aP\n"), BYTES("a0"), LIST(0), 40, TREENUM_UNLISTED_NAME, 0},
+    {"a byte beside the letters", BYTES("a\nb\n"), BYTES("A(B,[)"), LIST(0), 40, TREENUM_NOT_A_TERM, 4},
 }, writing[] = {
     {"a leaf", BYTES("a\nb\n"), BYTES("b"), LIST(2, 0), 40, TREENUM_RESULT, 1},
     {"the paper's number 10", BYTES("a\nb\n"), BYTES("b(b(a,b),a(b,b),b)"),
@@ -51,6 +69,10 @@ static const struct test {
     {"an entry after the root's bar", BYTES("a\nb\n"), BYTES(""), LIST(1, 0, 1), 40, TREENUM_NOT_A_TREE, 2},
     {"too soon an end", BYTES("a\nb\n"), BYTES(""), LIST(1, 1, 0), 40, TREENUM_NOT_A_TREE, 3},
     {"a symbol without a name", BYTES("a\nb\n"), BYTES(""), LIST(1, 3, 0, 4, 0, 0), 40, TREENUM_UNNAMED_SYMBOL, 1},
+    {"the list's spelling", BYTES("Probe\nd-0_X\n"), BYTES("Probe(d-0_X,Probe,d-0_X)"), LIST(1, 2, 0, 1, 0, 2, 0, 0), 40, TREENUM_RESULT, 24},
+    {"24 bytes, the list's spelling", BYTES("aaaaabbbbbaaaaabbbbbaaaA\nB\n"), BYTES("aaaaabbbbbaaaaabbbbbaaaA(B)"), LIST(1, 2, 0, 0), 40,
+     TREENUM_RESULT, 27},
+    {"names equal but for the case of letters", BYTES("f\ng\nF\n"), BYTES(""), LIST(1, 0), 40, TREENUM_FAULTY_NAMES, 2},
 };
 
 static size_t failed;
@@ -115,6 +137,10 @@ int main(void) {
     check(treenum_read_term((const uint8_t *)name, 25, long_text, value, back, TREENUM_TREE_ROOM, &value) == TREENUM_RESULT &&
               value == TREENUM_TREE_ROOM && memcmp(tree, back, sizeof tree) == 0,
           "reading 4,096 entries");
+    check(treenum_read_term(BYTES("AAAAABBBBBAAAAABBBBBAAAA\n"), long_text, 2048 * 24 + 2 * 2047, back, TREENUM_TREE_ROOM, &value) ==
+                  TREENUM_RESULT &&
+              value == TREENUM_TREE_ROOM && memcmp(tree, back, sizeof tree) == 0,
+          "reading 4,096 entries, the list in capitals");
     /* 21: a node more */
     for (size_t k = 0; k < 2048; k++) {
         memcpy(long_text + 2 * k, "a(", 2);
@@ -124,6 +150,6 @@ int main(void) {
     check(treenum_read_term(BYTES("a\n"), long_text, 4097 + 2048, back, TREENUM_TREE_ROOM, &value) == TREENUM_TERM_TREE_TOO_LONG &&
               value == 0 && memcmp(tree, back, sizeof tree) == 0,
           "reading 4,098 entries");
-    printf("C interface: %zu terms, %zu failed\n", sizeof reading / sizeof reading[0] + sizeof writing / sizeof writing[0] + 5, failed);
+    printf("C interface: %zu terms, %zu failed\n", sizeof reading / sizeof reading[0] + sizeof writing / sizeof writing[0] + 6, failed);
     return failed != 0;
 }
