@@ -53,6 +53,22 @@
 //! are, over lent lists; [`Table`], [`tree_of`] and [`term_of`] are made of them and add nothing
 //! to their answers.
 //!
+//! # Names
+//!
+//! A names list is bytes: 1 to 255 names, each followed by byte 10; the first names symbol 1. A
+//! name is 1 to 24 bytes: an ASCII letter, then letters, digits, `-` or `_`. Two names are equal if
+//! they differ only in the case of ASCII letters, and no name stands twice. Reading takes either
+//! spelling; writing gives the list's.
+//!
+//! ```
+//! use treenum::{term_of, tree_of};
+//!
+//! let tree = tree_of(b"Probe\nshut\n", b"probe(SHUT)")?;
+//! assert_eq!(tree, [1, 2, 0, 0]);
+//! assert_eq!(term_of(b"Probe\nshut\n", &tree)?, "Probe(shut)");
+//! # Ok::<(), treenum::Refusal>(())
+//! ```
+//!
 //! # What is proved
 //!
 //! The library is proved to give, for every input, the answer that its definitions say, and to
@@ -182,12 +198,13 @@ impl Table {
     }
 }
 
-/// The tree of a term. Refuses 17 to 21.
+/// The tree of a term, in whatever spelling its [names](crate#names) are. Refuses 17 to 21.
 ///
 /// ```
 /// use treenum::{tree_of, Kind, Refusal};
 ///
 /// assert_eq!(tree_of(b"cold\nwarm\n", b"warm(cold)")?, [2, 1, 0, 0]);
+/// assert_eq!(tree_of(b"cold\nwarm\n", b"Warm(COLD)")?, [2, 1, 0, 0]);
 /// // the text ends too soon, so the place is its length
 /// let refusal = Refusal { kind: Kind::NotATerm, place: 5 };
 /// assert_eq!(tree_of(b"cold\nwarm\n", b"warm("), Err(refusal));
@@ -200,15 +217,16 @@ pub fn tree_of(names: &[u8], text: &[u8]) -> Result<Vec<u16>, Refusal> {
     Ok(tree[..count].to_vec())
 }
 
-/// The term of a tree. Refuses 17, 12, 13 and 23.
+/// The term of a tree, in the list's spelling of its [names](crate#names). Refuses 17, 12, 13 and
+/// 23.
 ///
 /// ```
 /// use treenum::{term_of, Kind, Refusal};
 ///
-/// assert_eq!(term_of(b"cold\nwarm\n", &[2, 1, 0, 0])?, "warm(cold)");
+/// assert_eq!(term_of(b"cold\nWarm\n", &[2, 1, 0, 0])?, "Warm(cold)");
 /// // of equal names the later line is faulty
 /// let refusal = Refusal { kind: Kind::FaultyNames, place: 1 };
-/// assert_eq!(term_of(b"cold\ncold\n", &[2, 1, 0, 0]), Err(refusal));
+/// assert_eq!(term_of(b"cold\nCold\n", &[2, 1, 0, 0]), Err(refusal));
 /// # Ok::<(), Refusal>(())
 /// ```
 pub fn term_of(names: &[u8], tree: &[u16]) -> Result<String, Refusal> {

@@ -5,7 +5,7 @@ use std::fmt::{self, Display, Formatter};
 
 /// Why an operation turned its input away: "a refusal with its number and place".
 ///
-/// It prints document 01's words:
+/// It prints document 01's words, and with 17 and 20 when names are equal:
 ///
 /// ```
 /// use treenum::{Kind, Refusal};
@@ -15,6 +15,8 @@ use std::fmt::{self, Display, Formatter};
 ///     refusal.to_string(),
 ///     "refused 16 at 16: a lent list shorter than the tree (the place being the entries needed)"
 /// );
+/// let refusal = Refusal { kind: Kind::UnlistedName, place: 5 };
+/// assert!(refusal.to_string().ends_with("if they differ only in the case of ASCII letters"));
 /// ```
 #[derive(Clone, Copy, Debug, PartialEq, Eq, Hash)]
 pub struct Refusal {
@@ -28,12 +30,18 @@ impl Display for Refusal {
     fn fmt(&self, f: &mut Formatter<'_>) -> fmt::Result {
         let Refusal { kind, place } = self;
         write!(f, "refused {} at {place}: {}", kind.number(), kind.words())?;
-        match kind.place_words() {
-            Some(words) => write!(f, " ({words})"),
-            None => Ok(()),
+        if let Some(words) = kind.place_words() {
+            write!(f, " ({words})")?;
+        }
+        match kind {
+            Kind::FaultyNames | Kind::UnlistedName => write!(f, "; {EQUAL_NAMES}"),
+            _ => Ok(()),
         }
     }
 }
+
+/// What 17 and 20 go by: document 02, request (a).
+const EQUAL_NAMES: &str = "two names are equal if they differ only in the case of ASCII letters";
 
 impl Error for Refusal {}
 
@@ -74,13 +82,13 @@ pub enum Kind {
     NumberNotBelowTotal,
     /// 16: the list to write the tree of a number to is short.
     ShortTreeList,
-    /// 17: the names list is against the rules.
+    /// 17: the names list is against the [rules](crate#names).
     FaultyNames,
     /// 18: the text has more than 65,536 bytes.
     TextTooLong,
     /// 19: the text is no term.
     NotATerm,
-    /// 20: a name is not listed.
+    /// 20: a name is not listed, in any [spelling](crate#names).
     UnlistedName,
     /// 21: the term's tree has more than 4,096 entries.
     TermTreeTooLong,

@@ -191,14 +191,14 @@ pub fn write(
 /// Reads a term: writes its tree at the front of a list and gives the count of its entries; later
 /// entries stay.
 ///
-/// The names are each followed by byte 10; the first names symbol 1. Refuses 17 to 22; then the
+/// The [names](crate#names) of the text are taken in either spelling. Refuses 17 to 22; then the
 /// list is as it was. [`tree_of`](crate::tree_of) makes the list.
 ///
 /// ```
 /// use treenum::{read_term, Kind, Refusal};
 ///
 /// let mut tree = [9; 5];
-/// assert_eq!(read_term(b"cold\nwarm\n", b"warm(cold)", &mut tree), Ok(4));
+/// assert_eq!(read_term(b"cold\nwarm\n", b"Warm(cold)", &mut tree), Ok(4));
 /// assert_eq!(tree, [2, 1, 0, 0, 9]);
 /// // `hot` is not listed, and begins at byte 5
 /// let refusal = Refusal { kind: Kind::UnlistedName, place: 5 };
@@ -225,15 +225,15 @@ pub fn read_term(names: &[u8], text: &[u8], tree: &mut [u16]) -> Result<usize, R
 /// Writes a tree as a term at the front of a list and gives the count of its bytes; later bytes
 /// stay.
 ///
-/// Refuses 17, 12, 13, 23 and 24; then the list is as it was. [`term_of`](crate::term_of) makes a
-/// `String`.
+/// The [names](crate#names) are written in the list's spelling. Refuses 17, 12, 13, 23 and 24; then
+/// the list is as it was. [`term_of`](crate::term_of) makes a `String`.
 ///
 /// ```
 /// use treenum::{write_term, Kind, Refusal};
 ///
 /// let mut text = *b"..........!";
-/// assert_eq!(write_term(b"cold\nwarm\n", &[2, 1, 0, 0], &mut text), Ok(10));
-/// assert_eq!(&text, b"warm(cold)!");
+/// assert_eq!(write_term(b"cold\nWarm\n", &[2, 1, 0, 0], &mut text), Ok(10));
+/// assert_eq!(&text, b"Warm(cold)!");
 /// // symbol 3, the entry at place 1, has no name
 /// let refusal = Refusal { kind: Kind::UnnamedSymbol, place: 1 };
 /// assert_eq!(write_term(b"cold\nwarm\n", &[2, 3, 0, 0], &mut text), Err(refusal));

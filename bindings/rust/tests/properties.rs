@@ -70,6 +70,16 @@ impl Draw {
             .map(|first| format!("{first}{}\n", letters(self)))
             .concat()
     }
+
+    /// The text with each letter in either case.
+    fn respelled(&mut self, text: &str) -> String {
+        text.chars()
+            .map(|c| match self.below(2) {
+                0 => c.to_ascii_lowercase(),
+                _ => c.to_ascii_uppercase(),
+            })
+            .collect()
+    }
 }
 
 #[test]
@@ -98,6 +108,67 @@ fn numbers_and_trees_pair_off() {
         ] {
             let beyond = table.total() + beyond;
             assert_eq!(table.tree(beyond), refused(Kind::NumberNotBelowTotal, 0));
+        }
+    }
+}
+
+#[test]
+fn names_are_read_in_any_spelling_and_written_in_the_lists() {
+    let mut draw = Draw::new();
+    for _ in 0..500 {
+        let (table, names) = (draw.table(), draw.names());
+        let number = draw.below(table.total() as usize) as u64;
+        let tree = table.tree(number).unwrap();
+        let term = term_of(names.as_bytes(), &tree).unwrap();
+        for listed in [&names, &draw.respelled(&names)] {
+            let other = draw.respelled(&term);
+            assert_eq!(
+                tree_of(listed.as_bytes(), other.as_bytes()).as_ref(),
+                Ok(&tree)
+            );
+            let written = term_of(listed.as_bytes(), &tree).unwrap();
+            assert!(written.eq_ignore_ascii_case(&term));
+            let mut words = written
+                .split(['(', ',', ')'])
+                .filter(|word| !word.is_empty());
+            assert!(words.all(|word| listed.lines().any(|name| name == word)));
+        }
+
+        // a fifth line that is one of the four names
+        let fifth = names.lines().nth(draw.below(4)).unwrap();
+        let names = format!("{names}{}\n", draw.respelled(fifth));
+        assert_eq!(
+            tree_of(names.as_bytes(), term.as_bytes()),
+            refused(Kind::FaultyNames, 4)
+        );
+        assert_eq!(
+            term_of(names.as_bytes(), &tree),
+            refused(Kind::FaultyNames, 4)
+        );
+    }
+}
+
+#[test]
+fn letters_alone_have_a_case() {
+    let is_name_byte = |byte: &u8| byte.is_ascii_alphanumeric() || b"-_".contains(byte);
+    for one in (0..=255).filter(is_name_byte) {
+        for other in 0..=255 {
+            let expected = match other {
+                b'(' => refused(Kind::NotATerm, 2),
+                _ if !is_name_byte(&other) => refused(Kind::NotATerm, 1),
+                _ if one.eq_ignore_ascii_case(&other) => Ok(vec![1, 0]),
+                _ => refused(Kind::UnlistedName, 0),
+            };
+            assert_eq!(tree_of(&[b'k', one, b'\n'], &[b'K', other]), expected);
+        }
+        for other in (0..=255).filter(is_name_byte) {
+            let expected = if one.eq_ignore_ascii_case(&other) {
+                refused(Kind::FaultyNames, 1)
+            } else {
+                Ok(format!("K{}", char::from(other)))
+            };
+            let names = [b'k', one, b'\n', b'K', other, b'\n'];
+            assert_eq!(term_of(&names, &[2, 0]), expected);
         }
     }
 }

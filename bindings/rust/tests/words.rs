@@ -87,6 +87,16 @@ fn refusals_print_them() {
          listed, it is the last bar)"
     );
     assert_eq!(
+        shown(17, 1),
+        "refused 17 at 1: a names list against the rules (the place being its first faulty line, \
+         or 0 if it is empty); two names are equal if they differ only in the case of ASCII letters"
+    );
+    assert_eq!(
+        shown(20, 5),
+        "refused 20 at 5: a name not listed (at its first byte, the earliest such name); two names \
+         are equal if they differ only in the case of ASCII letters"
+    );
+    assert_eq!(
         shown(24, 18),
         "refused 24 at 18: a short lent list (with the bytes needed)"
     );
