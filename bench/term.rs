@@ -8,15 +8,17 @@ use common::{answer, head, print_stack, refuse, stack_use, time, Answer, Draw, F
 use lists::{chain, damage, random_tree, room, MOST_ENTRIES};
 use std::collections::hash_map::{Entry, RandomState};
 use std::collections::HashMap;
-use std::hash::{BuildHasher, BuildHasherDefault};
+use std::hash::{BuildHasher, BuildHasherDefault, Hash, Hasher};
 
 const MOST_BYTES: usize = 65536;
 
-/// What both operations are timed on: a names list, a tree, and its term.
+/// What both operations are timed on: a names list, a tree, its term as it is written, and as it is read: the same, or in
+/// another spelling.
 struct Pair {
     names: Vec<u8>,
     tree: Vec<u16>,
     text: Vec<u8>,
+    typed: Vec<u8>,
 }
 
 type Read = fn(&[u8], &[u8], &mut [u16]) -> Answer;
@@ -93,8 +95,29 @@ fn is_name(name: &[u8]) -> bool {
     (1..=24).contains(&name.len()) && name[0].is_ascii_alphabetic() && name.iter().all(is_name_byte)
 }
 
+/// A name: equal to another if they differ only in the case of ASCII letters. It has at most 24 bytes.
+struct Name<'a>(&'a [u8]);
+
+impl PartialEq for Name<'_> {
+    fn eq(&self, other: &Self) -> bool {
+        self.0.eq_ignore_ascii_case(other.0)
+    }
+}
+
+impl Eq for Name<'_> {}
+
+impl Hash for Name<'_> {
+    fn hash<H: Hasher>(&self, state: &mut H) {
+        let mut small = [0; 24];
+        let small = &mut small[..self.0.len()];
+        small.copy_from_slice(self.0);
+        small.make_ascii_lowercase();
+        small.hash(state);
+    }
+}
+
 /// The symbol of each name.
-fn symbols<S: BuildHasher + Default>(names: &[u8]) -> Result<HashMap<&[u8], u16, S>, Refusal> {
+fn symbols<S: BuildHasher + Default>(names: &[u8]) -> Result<HashMap<Name<'_>, u16, S>, Refusal> {
     let mut symbols = HashMap::with_capacity_and_hasher((names.len() / 2).min(255), S::default());
     for (line, bytes) in names.split_inclusive(|&b| b == 10).enumerate() {
         let Some(name) = bytes.strip_suffix(&[10]) else {
@@ -103,7 +126,7 @@ fn symbols<S: BuildHasher + Default>(names: &[u8]) -> Result<HashMap<&[u8], u16,
         if line >= 255 || !is_name(name) {
             return refuse(17, line);
         }
-        match symbols.entry(name) {
+        match symbols.entry(Name(name)) {
             Entry::Occupied(_) => return refuse(17, line),
             Entry::Vacant(entry) => entry.insert(line as u16 + 1),
         };
@@ -133,7 +156,7 @@ fn read<S: BuildHasher + Default>(names: &[u8], text: &[u8], tree: &mut [u16]) -
         if name.len() > 24 {
             return refuse(19, at + 24);
         }
-        match symbols.get(name) {
+        match symbols.get(&Name(name)) {
             Some(&symbol) => entries.push(symbol),
             None => unlisted = unlisted.or(Some(at)),
         }
@@ -200,7 +223,7 @@ fn write<S: BuildHasher + Default>(names: &[u8], tree: &[u16], text: &mut [u8]) 
     }
     let mut by_symbol: Vec<&[u8]> = vec![&[]; symbols.len() + 1];
     for (name, &symbol) in &symbols {
-        by_symbol[usize::from(symbol)] = name;
+        by_symbol[usize::from(symbol)] = name.0;
     }
     let mut bytes = Vec::with_capacity(16 * tree.len());
     let mut before = None;
@@ -255,12 +278,12 @@ fn name(draw: &mut Draw, length: usize) -> Vec<u8> {
     name
 }
 
-/// So many names, all different.
+/// So many names, no two of them equal.
 fn names_list(draw: &mut Draw, count: usize, make: &mut dyn FnMut(&mut Draw) -> Vec<u8>) -> Vec<Vec<u8>> {
     let mut names: Vec<Vec<u8>> = vec![];
     while names.len() < count {
         let name = make(draw);
-        if !names.contains(&name) {
+        if !names.iter().any(|other| other.eq_ignore_ascii_case(&name)) {
             names.push(name);
         }
     }
@@ -283,7 +306,8 @@ fn alike(draw: &mut Draw) -> Vec<Vec<u8>> {
 
 /// The bucket of a name: the hash of crates/names/src/lib.rt.
 fn bucket(name: &[u8]) -> u64 {
-    let h = name.iter().fold(0, |h, &b| (h * 2654435769 + u64::from(b)) % 4294967296);
+    let small = name.iter().map(u8::to_ascii_lowercase);
+    let h = small.fold(0, |h, b| (h * 2654435769 + u64::from(b)) % 4294967296);
     h * 2654435769 % 4294967296 / 8388608
 }
 
@@ -315,7 +339,18 @@ fn pair(names: Vec<Vec<u8>>, tree: Vec<u16>) -> Pair {
         }
     }
     let names = names.into_iter().flat_map(|name| [name, vec![10]].concat()).collect();
-    Pair { names, tree, text }
+    let typed = text.clone();
+    Pair { names, tree, text, typed }
+}
+
+/// The same, with the letters of the text that is read each in either case.
+fn retyped(draw: &mut Draw, mut pair: Pair) -> Pair {
+    for b in &mut pair.typed {
+        if b.is_ascii_alphabetic() && draw.below(2) == 0 {
+            *b ^= 32;
+        }
+    }
+    pair
 }
 
 /// 4,096 entries by 255 names.
@@ -351,6 +386,9 @@ fn faulty(draw: &mut Draw) -> Pair {
         _ => random_tree(draw, nodes, count),
     };
     let mut pair = pair(names, tree);
+    if draw.below(2) == 0 {
+        pair = retyped(draw, pair);
+    }
     for _ in 0..draw.below(3) {
         match draw.below(9) {
             0 => damage(draw, &mut pair.names, b"ab0-_ \n\n(.@[`{/:"),
@@ -362,15 +400,19 @@ fn faulty(draw: &mut Draw) -> Pair {
             3 => {
                 let lines: Vec<&[u8]> = pair.names.split_inclusive(|&b| b == 10).collect();
                 if !lines.is_empty() {
-                    pair.names = [&pair.names, lines[draw.below(lines.len())]].concat();
+                    let mut again = lines[draw.below(lines.len())].to_vec();
+                    if draw.below(2) == 0 {
+                        again.make_ascii_uppercase();
+                    }
+                    pair.names = [pair.names, again].concat();
                 }
             }
-            4 | 5 => damage(draw, &mut pair.text, b"ab0-_(),() \n.@[`{/:"),
+            4 | 5 => damage(draw, &mut pair.typed, b"ab0-_(),() \n.@[`{/:"),
             6 | 7 => damage(draw, &mut pair.tree, &[0, 0, 0, 1, 2, 9, 254, 255, 256, 65535]),
             _ => {
                 let bytes = MOST_BYTES - 2 + draw.below(4);
                 // Open brackets only, or a term of almost as many names as there can be.
-                pair.text = match draw.below(2) {
+                pair.typed = match draw.below(2) {
                     0 => b"a(".repeat(MOST_BYTES)[..bytes].to_vec(),
                     _ => [&b"a("[..], &b"a,".repeat(bytes / 2 - 2), b"a)"].concat(),
                 };
@@ -385,18 +427,18 @@ fn faulty(draw: &mut Draw) -> Pair {
 fn differ(operation: &str, pair: &Pair) -> ! {
     println!("{operation}: the answers or the lists differ");
     let names = String::from_utf8_lossy(&pair.names);
-    let text = String::from_utf8_lossy(&pair.text);
-    println!("names {names:?}, tree {:?}, text {text:?}", pair.tree);
+    let typed = String::from_utf8_lossy(&pair.typed);
+    println!("names {names:?}, tree {:?}, text {typed:?}", pair.tree);
     std::process::exit(1);
 }
 
 /// The answer of reading the text into so many entries.
 fn compare_read(pair: &Pair, room: usize) -> Answer {
     let mut expected = vec![777; room];
-    let answer = plain_read(&pair.names, &pair.text, &mut expected);
+    let answer = plain_read(&pair.names, &pair.typed, &mut expected);
     for read in [library_read as Read, plain_read_fx] {
         let mut tree = vec![777; room];
-        if read(&pair.names, &pair.text, &mut tree) != answer || tree != expected {
+        if read(&pair.names, &pair.typed, &mut tree) != answer || tree != expected {
             differ("reading", pair);
         }
     }
@@ -427,7 +469,7 @@ fn compare_faulty(draw: &mut Draw, inputs: usize) {
     let (mut reading, mut writing) = (Met::default(), Met::default());
     for _ in 0..inputs {
         let pair = faulty(draw);
-        let entries = 2 * pair.text.split(|b| !is_name_byte(b)).filter(|run| !run.is_empty()).count();
+        let entries = 2 * pair.typed.split(|b| !is_name_byte(b)).filter(|run| !run.is_empty()).count();
         reading.count(compare_read(&pair, room(draw, entries.min(MOST_ENTRIES))));
         writing.count(compare_write(&pair, room(draw, pair.text.len())));
     }
@@ -440,7 +482,7 @@ fn compare_faulty(draw: &mut Draw, inputs: usize) {
 
 fn reading(read: Read) -> impl FnMut(&Pair) -> Answer {
     let mut tree = vec![0; MOST_ENTRIES];
-    move |pair| read(&pair.names, &pair.text, &mut tree)
+    move |pair| read(&pair.names, &pair.typed, &mut tree)
 }
 
 fn writing(write: Write) -> impl FnMut(&Pair) -> Answer {
@@ -450,11 +492,11 @@ fn writing(write: Write) -> impl FnMut(&Pair) -> Answer {
 
 /// The stack of a call of treenum_read_term, and of one of treenum_write_term.
 fn stacks(pair: &Pair) -> (usize, usize) {
-    let Pair { names, tree, text } = pair;
+    let Pair { names, tree, text, typed } = pair;
     let mut read = vec![0u16; tree.len()];
     let mut written = vec![0u8; text.len()];
     let list = [names.as_ptr() as usize, names.len()];
-    let to_read = [text.as_ptr() as usize, text.len(), read.as_mut_ptr() as usize, read.len()];
+    let to_read = [typed.as_ptr() as usize, typed.len(), read.as_mut_ptr() as usize, read.len()];
     let to_write = [tree.as_ptr() as usize, tree.len(), written.as_mut_ptr() as usize, written.len()];
     // Sound: as in `library_read`.
     unsafe {
@@ -470,6 +512,14 @@ fn main() {
     let mut pairs = |n: usize, make: fn(&mut Draw) -> Pair| -> Vec<Pair> { (0..n).map(|_| make(&mut draw)).collect() };
     let cases = [
         ("255 names of 1 to 24 bytes", Some(5.0), pairs(8, |draw| large(draw, mixed))),
+        (
+            "the same, the text in either case",
+            None,
+            pairs(8, |draw| {
+                let pair = large(draw, mixed);
+                retyped(draw, pair)
+            }),
+        ),
         ("255 names of 24 bytes, 21 shared", None, pairs(8, |draw| large(draw, alike))),
         (
             "255 names, nested 2,048 deep",
@@ -488,7 +538,7 @@ fn main() {
             assert_eq!(compare_read(pair, MOST_ENTRIES), Ok(pair.tree.len() as u64), "{name}");
             assert_eq!(compare_write(pair, MOST_BYTES), Ok(pair.text.len() as u64), "{name}");
             let (mut tree, mut text) = (vec![0; pair.tree.len()], vec![0; pair.text.len()]);
-            assert!(plain_read(&pair.names, &pair.text, &mut tree).is_ok() && tree == pair.tree, "{name}");
+            assert!(plain_read(&pair.names, &pair.typed, &mut tree).is_ok() && tree == pair.tree, "{name}");
             assert!(plain_write(&pair.names, &pair.tree, &mut text).is_ok() && text == pair.text, "{name}");
         }
     }

@@ -11,16 +11,16 @@ use Rattle.model.specs.Choice.{if_then_else_, firstFaulty, anyBelow}
 use Rattle.model.specs.Tree.{Forest, empty, node, serial}
 use Rattle.model.specs.Names.{isLetter, isNameByte, isName, lower, alike, sameName, EachAlike, Line, joined, linesOf, noLine, lineAt, howManyNames, nameOf, lineWith, symbolOf, isListed, lineGround, namesThen}
 use Rattle.model.specs.Entries.{treeThen, treeFrom}
-use Rattle.model.specs.Term.{Terms, none, term, Term, alone, inBrackets, afterComma, textOfTerms, textOf, AllNames, IsTerm, ScanState, due, inName, closed, ScanStep, step, Scan, passes, breaksAt, onward, scan, breakThen, termThen, run, nameBegins, nameAt, termFrom}
+use Rattle.model.specs.Term.{Terms, none, term, Term, alone, inBrackets, afterComma, textOfTerms, textOf, AllNames, IsTerm, ScanState, due, inName, closed, ScanStep, step, Scan, passes, breaksAt, onward, scan, breakThen, termThen, nameBegins, nameAt, termFrom}
 use Rattle.model.specs.TermOperations.{symbolsOf, namesOf, treeOfTerm, termOfTree, entriesOf, bytesOf, nameGround, readWhole, readNamed, readTermOutcome, symbolGround, writeNamed, writeTermOutcome, readTermList, writeTermList}
 use Rattle.model.specs.Spelling.{EitherSpelling, EitherList}
 use Rattle.model.proofs.Choice.{not-both}
 use Rattle.model.proofs.Lists.{same-long, same-append}
 use Rattle.model.proofs.Bytes.{letter-byte, line-no-byte, close-no-byte, comma-no-byte}
-use Rattle.model.proofs.Alike.{alike-lower, letter-alike, byte-alike, other-alike, mark-alike, same-folded, folded-same, same-refl, same-exactly, same-small, same-both, both-same, small-name}
+use Rattle.model.proofs.Alike.{alike-lower, letter-alike, other-alike, mark-alike, same-folded, folded-same, same-refl, same-exactly, same-small, same-both, both-same, small-name}
 use Rattle.model.proofs.Scan.{whole-term, term-from}
 use Rattle.model.proofs.Names.{symbol-alike, listed-alike}
-use Rattle.model.proofs.Spelling.{run-small}
+use Rattle.model.proofs.Spelling.{begins-small, name-small}
 use Rattle.model.proofs.Inverse.{read-back}
 
 -- what is the same of a list and of it in small is the same of two lists that are alike
@@ -59,23 +59,6 @@ scan-small r place (b ∷ bs) =
     ∙ ap (λ (rest : ScanState → Scan). onward rest (step r b) place) (λ i next. scan-small next (suc place) bs i)
 
 -- ---- a text in small: 20
-
-byte-small : (bs : List ℕ) (i : ℕ) → isNameByte (getD (map lower bs) i 0) ≡ isNameByte (getD bs i 0)
-unfolding lower
-byte-small bs i = ap isNameByte (List·getD-map lower bs i 0) ∙ byte-alike (lower (getD bs i 0)) (getD bs i 0) (alike-lower (getD bs i 0))
-
-begins-small : (text : List ℕ) (i : ℕ) → nameBegins (map lower text) i ≡ nameBegins text i
-unfolding nameBegins
-begins-small text zero = byte-small text 0
-begins-small text (suc i) = rw (byte-small text (suc i), byte-small text i)
-
-drop-small : (bs : List ℕ) (i : ℕ) → drop i (map lower bs) ≡ map lower (drop i bs)
-drop-small bs zero = refl
-drop-small [] (suc i) = refl
-drop-small (b ∷ bs) (suc i) = drop-small bs i
-
-name-small : (text : List ℕ) (i : ℕ) → nameAt (map lower text) i ≡ map lower (nameAt text i)
-name-small text i = ap run (drop-small text i) ∙ run-small (drop i text)
 
 ground-small : (names text : List ℕ) (i : ℕ) → nameGround names (map lower text) i ≡ nameGround names text i
 unfolding nameGround

@@ -1,16 +1,15 @@
 -- Laws of the list's spelling: of a name, of a text, and of the text of a term.
-use Prim.Native.Nat.{ℕ, zero, suc, _≤_, _<_}
-use mathlib.Core.Path.{_≡_, refl, ap, sym, _∙_}
+use Prim.Native.Nat.{ℕ, zero, suc, _-_, _≤_, _<_}
+use mathlib.Core.Path.{_≡_, refl, ap, sym, subst, _∙_}
 use mathlib.Core.Bool.{Bool, true, false, not, _&&_}
 use mathlib.Core.List.{List, [], _∷_, _++_, append-assoc, append-nil, map}
 use native.Mathlib.Omega.{arith}
 use native.Mathlib.Nat.{not-suc-le-zero, le-of-suc-le-suc}
-use lib.ListN.{length, take, drop}
-use lib.Seq.{take-at}
+use lib.ListN.{length, getD, drop, List·getD-map}
 use borrow.Author.Tests.{not-false}
 use Rattle.model.specs.Choice.{if_then_else_}
 use Rattle.model.specs.Table.{sameBy}
-use Rattle.model.specs.Names.{isNameByte, allNameBytes, isName, lower, alike, sameName, nameOf, symbolOf, isListed}
+use Rattle.model.specs.Names.{isNameByte, allNameBytes, isName, lower, alike, sameName, lineAt, howManyNames, nameOf, symbolOf, isListed}
 use Rattle.model.specs.Term.{Terms, none, term, alone, textOfTerms, textOf, AllNames, IsTerm, run, nameBegins, nameAt}
 use Rattle.model.specs.TermOperations.{symbolsOf, namesOf, treeOfTerm, termOfTree, AllListed, nameGround}
 use Rattle.model.specs.Spelling.{spelt, respeltFrom, respelt, InSpelling, Respelling}
@@ -19,7 +18,7 @@ use Rattle.model.proofs.Lists.{same-long, same-append}
 use Rattle.model.proofs.Bytes.{open-no-byte, close-no-byte, comma-no-byte, end-no-byte, byte-first, byte-others, name-parts, name-bytes, NoByte, run-all}
 use Rattle.model.proofs.Alike.{alike-refl, alike-lower, byte-alike, mark-alike, same-folded, folded-same, same-refl, same-sym, same-trans, same-exactly, same-bytes}
 use Rattle.model.proofs.Scan.{bracketed, following, text-after}
-use Rattle.model.proofs.Names.{symbol-alike, listed-alike, name-of-symbol}
+use Rattle.model.proofs.Names.{Sound, symbol-alike, listed-alike, listed-line, name-of-symbol}
 use Rattle.model.proofs.Listed.{brackets-stop, comma-stop, begins, begins-next, begins-first}
 
 -- ---- runs of name bytes
@@ -41,15 +40,6 @@ run-bytes (b ∷ bs) = go (isNameByte b) refl (run-bytes bs)
     go true e ih = and-both (isNameByte b) (allNameBytes (run bs)) e ih
     go false e ih = refl
 
-run-front : (bs : List ℕ) → take (length (run bs)) bs ≡ run bs
-unfolding run
-run-front [] = refl
-run-front (b ∷ bs) = go (isNameByte b) (run-front bs)
-  where
-    go : (t : Bool) → take (length (run bs)) bs ≡ run bs → take (length (if t then b ∷ run bs else [])) (b ∷ bs) ≡ (if t then b ∷ run bs else [])
-    go true ih = ap (λ (x : List ℕ). b ∷ x) ih
-    go false ih = refl
-
 -- the run in small
 pub run-small : (bs : List ℕ) → run (map lower bs) ≡ map lower (run bs)
 unfolding run
@@ -60,8 +50,54 @@ run-small (b ∷ bs) = rw (byte-alike (lower b) b (alike-lower b)) (go (isNameBy
     go true ih = ap (λ (x : List ℕ). lower b ∷ x) ih
     go false ih = refl
 
-pub run-alike : (a b : List ℕ) → sameName a b ≡ true → sameName (run a) (run b) ≡ true
-run-alike a b e = folded-same (run a) (run b) (sym (run-small a) ∙ ap run (same-folded a b e) ∙ run-small b)
+-- names begin at the same bytes, and are the same in small
+byte-small : (bs : List ℕ) (i : ℕ) → isNameByte (getD (map lower bs) i 0) ≡ isNameByte (getD bs i 0)
+unfolding lower
+byte-small bs i = ap isNameByte (List·getD-map lower bs i 0) ∙ byte-alike (lower (getD bs i 0)) (getD bs i 0) (alike-lower (getD bs i 0))
+
+pub begins-small : (text : List ℕ) (i : ℕ) → nameBegins (map lower text) i ≡ nameBegins text i
+unfolding nameBegins
+begins-small text zero = byte-small text 0
+begins-small text (suc i) = rw (byte-small text (suc i), byte-small text i)
+
+drop-small : (bs : List ℕ) (i : ℕ) → drop i (map lower bs) ≡ map lower (drop i bs)
+drop-small bs zero = refl
+drop-small [] (suc i) = refl
+drop-small (b ∷ bs) (suc i) = drop-small bs i
+
+pub name-small : (text : List ℕ) (i : ℕ) → nameAt (map lower text) i ≡ map lower (nameAt text i)
+name-small text i = ap run (drop-small text i) ∙ run-small (drop i text)
+
+pub begins-alike : (a b : List ℕ) → sameName a b ≡ true → (i : ℕ) → nameBegins a i ≡ nameBegins b i
+begins-alike a b e i = sym (begins-small a i) ∙ ap (λ (x : List ℕ). nameBegins x i) (same-folded a b e) ∙ begins-small b i
+
+name-alike : (a b : List ℕ) → sameName a b ≡ true → (i : ℕ) → sameName (nameAt a i) (nameAt b i) ≡ true
+name-alike a b e i =
+    folded-same (nameAt a i) (nameAt b i) (sym (name-small a i) ∙ ap (λ (x : List ℕ). nameAt x i) (same-folded a b e) ∙ name-small b i)
+
+-- texts that are alike and have the same names are the same, where the byte before them is in a name or not
+names-decide : (inside : Bool) (a b : List ℕ) → sameName a b ≡ true → (inside ≡ true → run a ≡ run b)
+    → ((i : ℕ) → i < length a → begins inside a i ≡ true → nameAt a i ≡ nameAt b i) → a ≡ b
+unfolding sameBy
+names-decide inside [] [] e r h = refl
+names-decide inside [] (y ∷ b) e r h = absurd (not-both false e refl)
+names-decide inside (x ∷ a) [] e r h = absurd (not-both false e refl)
+names-decide inside (x ∷ a) (y ∷ b) e r h =
+    let p = and-true (alike x y) (sameName a b) e in
+    go (isNameByte x) refl (p .0) (name inside refl)
+    (λ k. names-decide (isNameByte x) a b (p .1) k (λ i l f. h (suc i) (omega arith) (begins-next inside x a i ∙ f)))
+  where
+    -- a name byte is in a name, the same in both
+    name : (s : Bool) → inside ≡ s → isNameByte x ≡ true → run (x ∷ a) ≡ run (y ∷ b)
+    name true f g = r f
+    name false f g = h 0 (omega arith) (rw (f, g))
+
+    go : (t : Bool) → isNameByte x ≡ t → alike x y ≡ true → (isNameByte x ≡ true → run (x ∷ a) ≡ run (y ∷ b)) → ((isNameByte x ≡ true → run a ≡ run b) → a ≡ b)
+        → x ∷ a ≡ y ∷ b
+    go true f k n ih =
+        let m : x ∷ run a ≡ y ∷ run b = sym (run-on x a f) ∙ n f ∙ run-on y b (sym (byte-alike x y k) ∙ f) in
+        λ i. ap (λ (l : List ℕ). getD l 0 0) m i ∷ ih (λ g. ap (drop 1) m) i
+    go false f k n ih = λ i. mark-alike x y k f i ∷ ih (λ g. absurd (not-both (isNameByte x) g f)) i
 
 same-cons : (b : ℕ) (xs ys : List ℕ) → sameName xs ys ≡ true → sameName (b ∷ xs) (b ∷ ys) ≡ true
 unfolding sameBy
@@ -92,6 +128,15 @@ module _ (names : List ℕ) where
   spelt-other : (n : List ℕ) → isListed names n ≡ false → spelt names n ≡ n
   unfolding spelt
   spelt-other n e = if-no (isListed names n) (nameOf names (symbolOf names n)) n e
+
+  -- in a names list it is the line that is equal to the name
+  pub spelt-line : Sound names → (n : List ℕ) (k : ℕ) → k < howManyNames names → sameName (lineAt names k .bytes) n ≡ true
+      → spelt names n ≡ lineAt names k .bytes
+  unfolding nameOf
+  spelt-line h n k l e =
+      let p = listed-line names h n k l e in
+      let f : symbolOf names n - 1 ≡ k = omega (arith, p .0) in
+      spelt-listed n (p .1) ∙ ap (λ (i : ℕ). lineAt names i .bytes) f
 
   -- either spelling of a listed name has the same spelling in the list
   pub spelt-alike : (a b : List ℕ) → sameName a b ≡ true → isListed names a ≡ true → spelt names a ≡ spelt names b
@@ -146,7 +191,7 @@ module _ (names : List ℕ) where
   pub respelt-length : (text : List ℕ) → length (respelt names text) ≡ length text
   respelt-length text = same-long alike (respelt names text) text (respelt-same text)
 
-  -- ---- respelt twice
+  -- ---- a name and what follows it
 
   rest-stops : (bs : List ℕ) → NoByte (respeltFrom names true bs)
   unfolding respeltFrom
@@ -163,95 +208,12 @@ module _ (names : List ℕ) where
   respelt-rest [] (y ∷ ys) e h = respelt-mark true y ys h ∙ sym (respelt-mark false y ys h)
   respelt-rest (b ∷ bs) ys e h = respelt-on b (bs ++ ys) (byte-first b bs e) ∙ respelt-rest bs ys (byte-others b bs e) h
 
-  -- a name, and what follows it
   respelt-bytes : (n ys : List ℕ) → 0 < length n → allNameBytes n ≡ true → NoByte ys → respelt names (n ++ ys) ≡ spelt names n ++ respelt names ys
   respelt-bytes [] ys l e h = absurd (not-suc-le-zero l)
   respelt-bytes (b ∷ bs) ys l e h =
       respelt-begins b (bs ++ ys) (byte-first b bs e)
       ∙ ap (λ (x : List ℕ). spelt names (b ∷ x) ++ respeltFrom names true (bs ++ ys)) (run-all bs ys (byte-others b bs e) h)
       ∙ ap (λ (x : List ℕ). spelt names (b ∷ bs) ++ x) (respelt-rest bs ys (byte-others b bs e) h)
-
-  from-twice : (inside : Bool) (bs : List ℕ) → respelt names (respeltFrom names inside bs) ≡ respeltFrom names inside bs
-  unfolding respeltFrom
-  from-twice inside [] = refl
-  from-twice inside (b ∷ bs) = go inside (isNameByte b) refl (λ t. from-twice t bs)
-    where
-      go : (s t : Bool) → isNameByte b ≡ t → ((u : Bool) → respelt names (respeltFrom names u bs) ≡ respeltFrom names u bs)
-          → respelt names (respeltFrom names s (b ∷ bs)) ≡ respeltFrom names s (b ∷ bs)
-      go true true e ih = rw (respelt-on b bs e) (ih true)
-      go false true e ih =
-          let n = b ∷ run bs in
-          let r = respeltFrom names true bs in
-          ap (respelt names) (respelt-begins b bs e)
-          ∙ respelt-bytes (spelt names n) r (omega (arith, spelt-long n)) (spelt-bytes n (rw (run-on b bs e) at (run-bytes (b ∷ bs)))) (rest-stops bs)
-          ∙ ap (λ (x : List ℕ). x ++ respelt names r) (spelt-twice n)
-          ∙ ap (λ (x : List ℕ). spelt names n ++ x) (ih true)
-          ∙ sym (respelt-begins b bs e)
-      go s false e ih =
-          ap (respelt names) (respelt-mark s b bs e)
-          ∙ respelt-mark false b (respelt names bs) e
-          ∙ ap (λ (x : List ℕ). b ∷ x) (ih false)
-          ∙ sym (respelt-mark s b bs e)
-
-  pub respelt-twice : (text : List ℕ) → respelt names (respelt names text) ≡ respelt names text
-  respelt-twice text = from-twice false text
-
-  -- ---- a text in the list's spelling
-
-  -- the names that begin among the bytes, where the byte before them is in a name or not
-  abbrev InFrom : (inside : Bool) → List ℕ → Type 0
-  InFrom inside bs = (i : ℕ) → i < length bs → begins inside bs i ≡ true → spelt names (nameAt bs i) ≡ nameAt bs i
-
-  -- bytes in the list's spelling come back
-  in-from : (inside : Bool) (bs : List ℕ) → InFrom inside bs → after inside bs ≡ bs
-  unfolding respeltFrom run
-  in-from true [] h = refl
-  in-from false [] h = refl
-  in-from inside (b ∷ bs) h =
-      go inside (isNameByte b) refl (h 0 (omega arith))
-      (λ t e. in-from t bs (λ i l f. h (suc i) (omega arith) (begins-next inside b bs i ∙ ap (λ (u : Bool). begins u bs i) e ∙ f)))
-    where
-      go : (s t : Bool) → isNameByte b ≡ t → ((isNameByte b && not s) ≡ true → spelt names (run (b ∷ bs)) ≡ run (b ∷ bs))
-          → ((u : Bool) → isNameByte b ≡ u → after u bs ≡ bs) → after s (b ∷ bs) ≡ b ∷ bs
-      go true true e k ih = rw (run-on b bs e, respelt-on b bs e) (ap (λ (x : List ℕ). b ∷ x) (ih true e))
-      go false true e k ih =
-          respelt-begins b bs e
-          ∙ ap (λ (x : List ℕ). x ++ respeltFrom names true bs)
-          (ap (spelt names) (sym (run-on b bs e)) ∙ k (and-both (isNameByte b) true e refl) ∙ run-on b bs e)
-          ∙ ap (λ (x : List ℕ). b ∷ x) (ih true e)
-      go true false e k ih = rw (run-mark b bs e, respelt-mark true b bs e) (ap (λ (x : List ℕ). b ∷ x) (ih false e))
-      go false false e k ih = respelt-mark false b bs e ∙ ap (λ (x : List ℕ). b ∷ x) (ih false e)
-
-  -- where the bytes come back, the name at their front is in the list's spelling
-  front-in : (b : ℕ) (bs : List ℕ) → isNameByte b ≡ true → respelt names (b ∷ bs) ≡ b ∷ bs → spelt names (b ∷ run bs) ≡ b ∷ run bs
-  front-in b bs e h =
-      let n = b ∷ run bs in
-      sym (take-at (spelt names n) (respeltFrom names true bs) (length n) (spelt-long n))
-      ∙ ap (take (length n)) (sym (respelt-begins b bs e) ∙ h)
-      ∙ ap (λ (x : List ℕ). b ∷ x) (run-front bs)
-
-  -- bytes that come back are in the list's spelling
-  from-in : (inside : Bool) (bs : List ℕ) → after inside bs ≡ bs → InFrom inside bs
-  from-in inside [] h i l e = absurd (not-suc-le-zero l)
-  from-in true (b ∷ bs) h zero l e = absurd (not-both false (and-true (isNameByte b) false e .1) refl)
-  from-in false (b ∷ bs) h zero l e =
-      let f = and-true (isNameByte b) true e .0 in
-      rw (run-on b bs f) (front-in b bs f h)
-  from-in inside (b ∷ bs) h (suc i) l e =
-      from-in (isNameByte b) bs (go inside (isNameByte b) refl h) i (le-of-suc-le-suc l) (sym (begins-next inside b bs i) ∙ e)
-    where
-      go : (s t : Bool) → isNameByte b ≡ t → after s (b ∷ bs) ≡ b ∷ bs → after t bs ≡ bs
-      go true true f g = ap (drop 1) (rw (run-on b bs f, respelt-on b bs f) at g)
-      go false true f g =
-          ap (drop 1) (sym (respelt-begins b bs f ∙ ap (λ (x : List ℕ). x ++ respeltFrom names true bs) (front-in b bs f g)) ∙ g)
-      go true false f g = ap (drop 1) (rw (run-mark b bs f, respelt-mark true b bs f) at g)
-      go false false f g = ap (drop 1) (sym (respelt-mark false b bs f) ∙ g)
-
-  pub respelt-none : (text : List ℕ) → InSpelling names text → respelt names text ≡ text
-  respelt-none text h = in-from false text (λ i l e. h i l (begins-first text i ∙ e))
-
-  pub none-respelt : (text : List ℕ) → respelt names text ≡ text → InSpelling names text
-  none-respelt text h i l e = from-in false text h i l (sym (begins-first text i) ∙ e)
 
   -- ---- the names of a text, respelt
 
@@ -296,35 +258,7 @@ module _ (names : List ℕ) where
       go true false f = rw (run-mark b bs f, respelt-mark true b bs f)
       go false false f = ap (drop (suc i)) (respelt-mark false b bs f)
 
-  -- ---- texts that are alike
-
-  -- bytes alike, whose names are listed, have the same spelling in the list
-  from-alike : (inside : Bool) (a b : List ℕ) → sameName a b ≡ true
-      → ((i : ℕ) → i < length a → begins inside a i ≡ true → isListed names (nameAt a i) ≡ true) → respeltFrom names inside a ≡ respeltFrom names inside b
-  unfolding sameBy respeltFrom
-  from-alike inside [] [] e h = refl
-  from-alike inside [] (y ∷ b) e h = absurd (not-both false e refl)
-  from-alike inside (x ∷ a) [] e h = absurd (not-both false e refl)
-  from-alike inside (x ∷ a) (y ∷ b) e h =
-      let p = and-true (alike x y) (sameName a b) e in
-      go inside (isNameByte x) refl (p .0) (run-alike a b (p .1)) (h 0 (omega arith))
-      (λ t f. from-alike t a b (p .1) (λ i l g. h (suc i) (omega arith) (begins-next inside x a i ∙ ap (λ (u : Bool). begins u a i) f ∙ g)))
-    where
-      go : (s t : Bool) → isNameByte x ≡ t → alike x y ≡ true → sameName (run a) (run b) ≡ true
-          → ((isNameByte x && not s) ≡ true → isListed names (run (x ∷ a)) ≡ true)
-          → ((u : Bool) → isNameByte x ≡ u → respeltFrom names u a ≡ respeltFrom names u b) → respeltFrom names s (x ∷ a) ≡ respeltFrom names s (y ∷ b)
-      go true true f k r l ih = respelt-on x a f ∙ ih true f ∙ sym (respelt-on y b (sym (byte-alike x y k) ∙ f))
-      go false true f k r l ih =
-          respelt-begins x a f
-          ∙ ap (λ (n : List ℕ). n ++ respeltFrom names true a)
-          (spelt-alike (x ∷ run a) (y ∷ run b) (and-both (alike x y) (sameName (run a) (run b)) k r)
-          (ap (isListed names) (sym (run-on x a f)) ∙ l (and-both (isNameByte x) true f refl)))
-          ∙ ap (λ (z : List ℕ). spelt names (y ∷ run b) ++ z) (ih true f)
-          ∙ sym (respelt-begins y b (sym (byte-alike x y k) ∙ f))
-      go s false f k r l ih =
-          respelt-mark s x a f
-          ∙ (λ i. mark-alike x y k f i ∷ ih false f i)
-          ∙ sym (respelt-mark s y b (sym (byte-alike x y k) ∙ f))
+  -- ---- what the text in the list's spelling is
 
   -- where 20 does not hold, the name is listed
   no-ground : (text : List ℕ) (i : ℕ) → nameBegins text i ≡ true → nameGround names text i ≡ 0 → isListed names (nameAt text i) ≡ true
@@ -333,19 +267,43 @@ module _ (names : List ℕ) where
       let p = if-zero (nameBegins text i && not (isListed names (nameAt text i))) 19 0 g in
       not-false (isListed names (nameAt text i)) (rw e at (p .0))
 
-  -- what the text in the list's spelling is, for every list and text
+  pub respelt-named : (text : List ℕ) (i : ℕ) → i < length text → nameBegins text i ≡ true → nameAt (respelt names text) i ≡ spelt names (nameAt text i)
+  respelt-named text i l e = named-from false text i l (sym (begins-first text i) ∙ e)
+
+  -- a text alike to it whose names are the list's spelling of the text's is no other
+  respelt-decided : (text other : List ℕ) → sameName other text ≡ true
+      → ((i : ℕ) → i < length text → nameBegins text i ≡ true → nameAt other i ≡ spelt names (nameAt text i)) → other ≡ respelt names text
+  respelt-decided text other e h =
+      names-decide false other (respelt names text) (same-trans other text (respelt names text) e (same-sym (respelt names text) text (respelt-same text)))
+      (λ f. absurd (not-both false f refl))
+      (λ i l f.
+      let m : i < length text = omega (arith, same-long alike other text e) in
+      let g : nameBegins text i ≡ true = sym (begins-alike other text e i) ∙ begins-first other i ∙ f in
+      h i m g ∙ sym (respelt-named text i m g))
+
+  respelt-in : (text : List ℕ) → InSpelling names (respelt names text)
+  respelt-in text i l e =
+      let m : i < length text = omega (arith, respelt-length text) in
+      let f = respelt-named text i m (sym (begins-alike (respelt names text) text (respelt-same text) i) ∙ e) in
+      ap (spelt names) f ∙ spelt-twice (nameAt text i) ∙ sym f
+
+  respelt-none : (text : List ℕ) → InSpelling names text → respelt names text ≡ text
+  respelt-none text h = sym (respelt-decided text text (same-refl text) (λ i l e. sym (h i l e)))
+
+  -- for every list and text
   pub respelling : (text : List ℕ) → Respelling names text
   respelling text =
       record {
         each = same-exactly (respelt names text) text .0 (respelt-same text);
-        named = λ i l e. named-from false text i l (sym (begins-first text i) ∙ e);
-        spelling = none-respelt (respelt names text) (respelt-twice text);
-        same = (none-respelt text, respelt-none text);
-        twice = respelt-twice text;
+        named = respelt-named text;
+        spelling = respelt-in text;
+        same = (λ e. subst (InSpelling names) e (respelt-in text), respelt-none text);
+        twice = respelt-none (respelt names text) (respelt-in text);
         only = λ g other e s.
-            sym (respelt-none other s)
-            ∙ sym (from-alike false text other (same-sym other text (same-exactly other text .1 e))
-            (λ i l f. no-ground text i (begins-first text i ∙ f) (g i l)));
+            let f = same-exactly other text .1 e in
+            respelt-decided text other f (λ i l h.
+            sym (s i (omega (arith, same-long alike other text f)) (begins-alike other text f i ∙ h))
+            ∙ sym (spelt-alike (nameAt text i) (nameAt other i) (name-alike text other (same-sym other text f) i) (no-ground text i h (g i l))));
       }
 
   -- ---- the text of a term

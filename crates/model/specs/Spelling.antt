@@ -11,8 +11,8 @@ use Rattle.model.specs.Names.{isNameByte, EachAlike, nameOf, symbolOf, i
 use Rattle.model.specs.Term.{run, nameBegins, nameAt}
 use Rattle.model.specs.TermOperations.{nameGround, readTermOutcome, writeTermOutcome, readTermList, writeTermList}
 
--- a name in the list's spelling: the listed name equal to it (the first; in a names list there is one at most: the law `one-line`); a name that
--- is not listed stays
+-- a name in the list's spelling: the listed name equal to it (the first; in a names list there is one at most: the laws `one-line` and
+-- `spelt-line`); a name that is not listed stays
 unfoldable pub spelt : (names name : List ℕ) → List ℕ
 spelt names name = if isListed names name then nameOf names (symbolOf names name) else name
 
