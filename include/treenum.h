@@ -8,8 +8,8 @@
  *
  * A names list is bytes: 1 to 255 names, each followed by a line feed; the first names symbol 1. A name is 1 to 24
  * bytes: an ASCII letter, then letters, digits, '-' or '_'. Two names are equal if they differ only in the case of
- * ASCII letters, and no name stands twice. A term is a name, or a name followed by '(', one or more terms with ','
- * between them, and ')', without blanks.
+ * ASCII letters, and no two names of a list are equal. A term is a name, or a name followed by '(', one or more terms
+ * with ',' between them, and ')', without blanks.
  *
  * Each function returns TREENUM_RESULT and puts its result in *value, or returns the number of a refusal and puts its
  * place there. On a refusal no list is written to.
@@ -66,7 +66,7 @@ enum {
     TREENUM_TEXT_TOO_LONG = 18,      /* a text above 65,536 bytes */
     TREENUM_NOT_A_TERM = 19,         /* a text that is no term; the first byte with which no term can go on, or the text's
                                         length if it ends too soon */
-    TREENUM_UNLISTED_NAME = 20,      /* a name not listed, in any spelling; the first byte of the earliest such name */
+    TREENUM_UNLISTED_NAME = 20,      /* a name equal to none in the list; the first byte of the earliest such name */
     TREENUM_TERM_TREE_TOO_LONG = 21, /* a term whose tree is above 4,096 entries */
     TREENUM_SHORT_TERM_TREE = 22,    /* a short lent tree list; the entries needed */
 
@@ -94,12 +94,12 @@ uint32_t treenum_number(uint64_t states, const uint16_t *rows, size_t rows_len, 
 uint32_t treenum_write(uint64_t states, const uint16_t *rows, size_t rows_len, const uint16_t *accepting,
                        size_t accepting_len, uint64_t number, uint16_t *tree, size_t tree_len, uint64_t *value);
 
-/* Reads a term, its names in either spelling, into a tree list. The result is the count of entries, which are written at
- * the front of the list; the later ones stay. Refusals: 17, 18, 19, 20, 21, 22. */
+/* Reads a term into a tree list; its names may have capital or small letters other than the list's. The result is the
+ * count of entries, which are written at the front of the list; the later ones stay. Refusals: 17, 18, 19, 20, 21, 22. */
 uint32_t treenum_read_term(const uint8_t *names, size_t names_len, const uint8_t *text, size_t text_len,
                            uint16_t *tree, size_t tree_len, uint64_t *value);
 
-/* Writes a tree as a term, in the spelling of the names list, into a text list. The result is the count of bytes, which
+/* Writes a tree as a term, its names as they stand in the names list, into a text list. The result is the count of bytes, which
  * are written at the front of the list; the later ones stay. Refusals: 17, 12, 13, 23, 24. */
 uint32_t treenum_write_term(const uint8_t *names, size_t names_len, const uint16_t *tree, size_t tree_len,
                             uint8_t *text, size_t text_len, uint64_t *value);

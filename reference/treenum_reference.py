@@ -129,7 +129,7 @@ class Counts:
         self.state_counts = {}
         self.longest_trees = {}
         self.earlier_counts = {}
-        self.alike = {(row.symbol, row.arguments): row for row in table}
+        self.by_contents = {(row.symbol, row.arguments): row for row in table}
 
     def rows_of(self, state):
         if state not in self.state_rows:
@@ -138,7 +138,7 @@ class Counts:
 
     def row_with(self, symbol, arguments):
         """The row with this symbol and these arguments, None if there is none. There are no two."""
-        return self.alike.get((symbol, tuple(arguments)))
+        return self.by_contents.get((symbol, tuple(arguments)))
 
     def of_row(self, row):
         """'A row without arguments counts 1; any other row counts the product of its arguments' counts.'"""
@@ -412,7 +412,7 @@ def nodes_of(term):
 
 
 def symbols_of(term, names):
-    """'Reading takes either spelling.': the symbol of each name of the term that is listed, by its spelling there."""
+    """'Reading takes either spelling.': for each name in the term, as spelt in the term, its symbol if it is listed."""
     spellings = {node.name for node in nodes_of(term)}
     return {spelling: k + 1 for k, name in enumerate(names) for spelling in spellings if equal(spelling, name)}
 
@@ -811,7 +811,7 @@ def term_of(node):
 
 def spellings_of(text):
     """The text with each letter in either case."""
-    return map(bytes, itertools.product(*({byte, *bytes([byte]).swapcase()} for byte in text)))
+    return map(bytes, itertools.product(*([other for other in range(256) if alike(byte, other)] for byte in text)))
 
 
 def spelled(tree):
@@ -831,8 +831,17 @@ def spelling_tests(expect):
         expect(f'bytes {one} and {other}', alike(one, other) and alike(other, one), True)
     # Names: bytes.lower(), which changes the 26 capitals alone, makes equal ones the same.
     expect('what lower() changes', [byte for byte in range(256) if bytes([byte]).lower() != bytes([byte])], list(range(65, 91)))
+    expect('what lower() gives', CAPITALS.lower(), SMALL)
     short = [name for name in map(bytes, all_lists(b'aAbB1', 3)) if Grammar(3).is_name(name)]
     expect('short names', [pair for pair in itertools.product(short, repeat=2) if equal(*pair) != (pair[0].lower() == pair[1].lower())], [])
+    # Names of 24 bytes: in the other case, or with another letter, at each place.
+    name = SMALL[:24]
+    expect('24 bytes, one in the other case', [at for at in range(24) if not equal(name, name[:at] + CAPITALS[at:at + 1] + name[at + 1:])], [])
+    expect('24 bytes, one other letter', [at for at in range(24) if equal(name, name[:at] + b'Z' + name[at + 1:])], [])
+    # 17 of both operations, and the earliest of two names not listed.
+    expect('reading by equal names', read_term(b'a\nA\n', b'a', [7] * 3), (refused(17, 1), [7] * 3))
+    expect('writing by equal names', write_term(b'a\nA\n', [1, 0], b'!!'), (refused(17, 1), b'!!'))
+    expect('the earliest of two', read_term(b'a\n', b'A(C,c)', [7] * 3), (refused(20, 2), [7] * 3))
     # Names of two bytes: one listed after another, and one read where another is listed.
     wrong = []
     for one, other in itertools.product(LETTERS + DIGITS + b'-_', repeat=2):

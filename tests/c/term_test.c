@@ -137,6 +137,8 @@ int main(void) {
     check(treenum_read_term((const uint8_t *)name, 25, long_text, value, back, TREENUM_TREE_ROOM, &value) == TREENUM_RESULT &&
               value == TREENUM_TREE_ROOM && memcmp(tree, back, sizeof tree) == 0,
           "reading 4,096 entries");
+    memset(back, 0xff, sizeof back);
+    value = 1;
     check(treenum_read_term(BYTES("AAAAABBBBBAAAAABBBBBAAAA\n"), long_text, 2048 * 24 + 2 * 2047, back, TREENUM_TREE_ROOM, &value) ==
                   TREENUM_RESULT &&
               value == TREENUM_TREE_ROOM && memcmp(tree, back, sizeof tree) == 0,

@@ -57,8 +57,8 @@
 //!
 //! A names list is bytes: 1 to 255 names, each followed by byte 10; the first names symbol 1. A
 //! name is 1 to 24 bytes: an ASCII letter, then letters, digits, `-` or `_`. Two names are equal if
-//! they differ only in the case of ASCII letters, and no name stands twice. Reading takes either
-//! spelling; writing gives the list's.
+//! they differ only in the case of ASCII letters, and no two names of a list are equal. Reading takes
+//! a name in any case of its letters; writing gives it as it stands in the list.
 //!
 //! ```
 //! use treenum::{term_of, tree_of};
@@ -198,13 +198,13 @@ impl Table {
     }
 }
 
-/// The tree of a term, in whatever spelling its [names](crate#names) are. Refuses 17 to 21.
+/// The tree of a term; the case of letters in its [names](crate#names) does not matter. Refuses 17
+/// to 21.
 ///
 /// ```
 /// use treenum::{tree_of, Kind, Refusal};
 ///
 /// assert_eq!(tree_of(b"cold\nwarm\n", b"warm(cold)")?, [2, 1, 0, 0]);
-/// assert_eq!(tree_of(b"cold\nwarm\n", b"Warm(COLD)")?, [2, 1, 0, 0]);
 /// // the text ends too soon, so the place is its length
 /// let refusal = Refusal { kind: Kind::NotATerm, place: 5 };
 /// assert_eq!(tree_of(b"cold\nwarm\n", b"warm("), Err(refusal));
@@ -217,7 +217,7 @@ pub fn tree_of(names: &[u8], text: &[u8]) -> Result<Vec<u16>, Refusal> {
     Ok(tree[..count].to_vec())
 }
 
-/// The term of a tree, in the list's spelling of its [names](crate#names). Refuses 17, 12, 13 and
+/// The term of a tree, its [names](crate#names) as they stand in the list. Refuses 17, 12, 13 and
 /// 23.
 ///
 /// ```

@@ -1,11 +1,11 @@
-//! Refusals, with document 01's numbers and words.
+//! Refusals, with the documents' numbers and words.
 
 use std::error::Error;
 use std::fmt::{self, Display, Formatter};
 
 /// Why an operation turned its input away: "a refusal with its number and place".
 ///
-/// It prints document 01's words, and with 17 and 20 when names are equal:
+/// It prints document 01's words; with 17 and 20 it adds the rule for equal names:
 ///
 /// ```
 /// use treenum::{Kind, Refusal};
@@ -16,7 +16,11 @@ use std::fmt::{self, Display, Formatter};
 ///     "refused 16 at 16: a lent list shorter than the tree (the place being the entries needed)"
 /// );
 /// let refusal = Refusal { kind: Kind::UnlistedName, place: 5 };
-/// assert!(refusal.to_string().ends_with("if they differ only in the case of ASCII letters"));
+/// assert_eq!(
+///     refusal.to_string(),
+///     "refused 20 at 5: a name not listed (at its first byte, the earliest such name); names are \
+///      equal if they differ only in the case of ASCII letters"
+/// );
 /// ```
 #[derive(Clone, Copy, Debug, PartialEq, Eq, Hash)]
 pub struct Refusal {
@@ -34,14 +38,18 @@ impl Display for Refusal {
             write!(f, " ({words})")?;
         }
         match kind {
-            Kind::FaultyNames | Kind::UnlistedName => write!(f, "; {EQUAL_NAMES}"),
+            Kind::FaultyNames => write!(
+                f,
+                "; of equal names the later line is faulty, and {EQUAL_NAMES}"
+            ),
+            Kind::UnlistedName => write!(f, "; {EQUAL_NAMES}"),
             _ => Ok(()),
         }
     }
 }
 
 /// What 17 and 20 go by: document 02, request (a).
-const EQUAL_NAMES: &str = "two names are equal if they differ only in the case of ASCII letters";
+const EQUAL_NAMES: &str = "names are equal if they differ only in the case of ASCII letters";
 
 impl Error for Refusal {}
 
@@ -88,7 +96,7 @@ pub enum Kind {
     TextTooLong,
     /// 19: the text is no term.
     NotATerm,
-    /// 20: a name is not listed, in any [spelling](crate#names).
+    /// 20: a name is equal to none in the [list](crate#names).
     UnlistedName,
     /// 21: the term's tree has more than 4,096 entries.
     TermTreeTooLong,

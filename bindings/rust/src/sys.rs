@@ -191,8 +191,8 @@ pub fn write(
 /// Reads a term: writes its tree at the front of a list and gives the count of its entries; later
 /// entries stay.
 ///
-/// The [names](crate#names) of the text are taken in either spelling. Refuses 17 to 22; then the
-/// list is as it was. [`tree_of`](crate::tree_of) makes the list.
+/// The case of letters in the text's [names](crate#names) does not matter. Refuses 17 to 22; then
+/// the list is as it was. [`tree_of`](crate::tree_of) makes the list.
 ///
 /// ```
 /// use treenum::{read_term, Kind, Refusal};
@@ -225,8 +225,8 @@ pub fn read_term(names: &[u8], text: &[u8], tree: &mut [u16]) -> Result<usize, R
 /// Writes a tree as a term at the front of a list and gives the count of its bytes; later bytes
 /// stay.
 ///
-/// The [names](crate#names) are written in the list's spelling. Refuses 17, 12, 13, 23 and 24; then
-/// the list is as it was. [`term_of`](crate::term_of) makes a `String`.
+/// The [names](crate#names) are written as they stand in the list. Refuses 17, 12, 13, 23 and 24;
+/// then the list is as it was. [`term_of`](crate::term_of) makes a `String`.
 ///
 /// ```
 /// use treenum::{write_term, Kind, Refusal};

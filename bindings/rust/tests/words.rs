@@ -89,12 +89,13 @@ fn refusals_print_them() {
     assert_eq!(
         shown(17, 1),
         "refused 17 at 1: a names list against the rules (the place being its first faulty line, \
-         or 0 if it is empty); two names are equal if they differ only in the case of ASCII letters"
+         or 0 if it is empty); of equal names the later line is faulty, and names are equal if they \
+         differ only in the case of ASCII letters"
     );
     assert_eq!(
         shown(20, 5),
-        "refused 20 at 5: a name not listed (at its first byte, the earliest such name); two names \
-         are equal if they differ only in the case of ASCII letters"
+        "refused 20 at 5: a name not listed (at its first byte, the earliest such name); names are \
+         equal if they differ only in the case of ASCII letters"
     );
     assert_eq!(
         shown(24, 18),

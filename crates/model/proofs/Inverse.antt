@@ -12,7 +12,7 @@ use Rattle.model.specs.Names.{symbolOf}
 use Rattle.model.specs.Term.{Terms, Term, none, term, alone, textOf, AllNames, IsTerm, termFrom}
 use Rattle.model.specs.TermOperations.{symbolsOf, namesOf, treeOfTerm, termOfTree, AllListed, entriesOf, bytesOf, nameGround, readTermOutcome, symbolGround, writeTermOutcome, readTermList, writeTermList}
 use Rattle.model.specs.Inverse.{Writable, WriteTaken, Readable, ReadTaken, WrittenReads, ReadWrites, ReadLent, WriteLent, entriesEach, EntriesSentence}
-use Rattle.model.specs.Spelling.{respelt, InSpelling, WrittenSpelling}
+use Rattle.model.specs.Spelling.{respelt, WrittenSpelling}
 use Rattle.model.proofs.Choice.{if-no, if-result, no-fault, no-fault-back}
 use Rattle.model.proofs.Writing.{lent-all, lent-front, lent-told}
 use Rattle.model.proofs.Entries.{tree-from, tree-then-taken, tree-then-back}
@@ -279,10 +279,7 @@ read-writes names text tree n e lent l =
 
 -- what is written is in the list's spelling
 pub written-spelling : WrittenSpelling
-unfolding writeTermList
-written-spelling names tree text n e =
-    let p = write-back names tree (length text) n e in
-    let same : respelt names (bytesOf names tree) ≡ bytesOf names tree =
-    sym (read-bytes names (bytesOf names tree) (written-read names tree (p .0))) ∙ ap (bytesOf names) (written-entries names tree (p .0)) in
-    subst (InSpelling names) (sym (lent-front (writeTermOutcome names tree (length text)) n (bytesOf names tree) text e (p .1)))
-    (respelling names (bytesOf names tree) .same .0 same)
+written-spelling names tree room n e =
+    let w = write-back names tree room n e .0 in
+    respelling names (bytesOf names tree) .same .0
+    (sym (read-bytes names (bytesOf names tree) (written-read names tree w)) ∙ ap (bytesOf names) (written-entries names tree w))

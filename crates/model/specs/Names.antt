@@ -34,16 +34,16 @@ isName (b ∷ bs) = isLetter b && allNameBytes bs && leb (length (b ∷ bs)) 24
 unfoldable pub lower : ℕ → ℕ
 lower b = if between 65 90 b then b + 32 else b
 
--- the same byte, or two that "differ only in the case of ASCII letters" (which they are of all bytes: the law `alike-pairs`)
+-- the same byte, or one ASCII letter in its two cases, A and a to Z and z (no other pair of bytes: the law `alike-pairs`)
 unfoldable pub alike : (a b : ℕ) → Bool
 alike a b = eqb (lower a) (lower b)
 
 -- "Two names shall be equal if they differ only in the case of ASCII letters." (request (a)): they are equally long, and alike byte by byte.
--- The one place where this is said; "equal names" below are these
+-- "equal names" below are these
 abbrev pub sameName : List ℕ → List ℕ → Bool
 sameName a b = sameBy alike a b
 
--- the same once more, place by place (the law `same-exactly`)
+-- any two lists of bytes so compared, place by place (the law `same-exactly`)
 pub record EachAlike (a b : List ℕ) : Type 0 where
   pub long : length a ≡ length b
   pub at : (i : ℕ) → i < length a → alike (getD a i 0) (getD b i 0) ≡ true

@@ -1,15 +1,15 @@
--- The list's spelling of a name and of a text, and what either spelling is answered (request (a)). Assumes nothing: these are definitions.
+-- The list's spelling of a name and of a text, and what is answered to either spelling (request (a)). Assumes nothing: these are definitions.
 use Prim.Native.Nat.{ℕ, _<_}
 use mathlib.Core.Path.{_≡_}
 use mathlib.Core.Bool.{Bool, true, false}
 use mathlib.Core.Logic.{_↔_}
 use mathlib.Core.List.{List, [], _∷_, _++_}
-use lib.ListN.{length, take}
+use lib.ListN.{length}
 use Rattle.model.specs.Answers.{result}
 use Rattle.model.specs.Choice.{if_then_else_}
 use Rattle.model.specs.Names.{isNameByte, EachAlike, nameOf, symbolOf, isListed}
 use Rattle.model.specs.Term.{run, nameBegins, nameAt}
-use Rattle.model.specs.TermOperations.{nameGround, readTermOutcome, writeTermOutcome, readTermList, writeTermList}
+use Rattle.model.specs.TermOperations.{bytesOf, nameGround, readTermOutcome, writeTermOutcome, readTermList, writeTermList}
 
 -- a name in the list's spelling: the listed name equal to it (the first; in a names list there is one at most: the laws `one-line` and
 -- `spelt-line`); a name that is not listed stays
@@ -17,7 +17,7 @@ unfoldable pub spelt : (names name : List ℕ) → List ℕ
 spelt names name = if isListed names name then nameOf names (symbolOf names name) else name
 
 -- a text in the list's spelling, from some byte on; `inside`: the byte before is in a name. The first byte of a name gives the whole name as the
--- list spells it, its other bytes give nothing more, any other byte stays. (In a text that is no term, a name is a run of name bytes.)
+-- list spells it, its other bytes give nothing more, any other byte stays. (A name is here a whole run of name bytes, in a text that is no term too.)
 unfoldable pub respeltFrom : (names : List ℕ) (inside : Bool) → List ℕ → List ℕ
 respeltFrom names inside [] = []
 respeltFrom names inside (b ∷ bs) =
@@ -49,10 +49,9 @@ pub record Respelling (names text : List ℕ) : Type 0 where
   pub only : ((i : ℕ) → i < length text → nameGround names text i ≡ 0) → (other : List ℕ) → EachAlike other text → InSpelling names other
       → other ≡ respelt names text
 
--- what is written is in the list's spelling, whatever the tree
+-- the bytes that are written, whatever the tree, are in the list's spelling
 abbrev pub WrittenSpelling : Type 0
-WrittenSpelling =
-    (names tree text : List ℕ) (n : ℕ) → writeTermOutcome names tree (length text) ≡ result n → InSpelling names (take n (writeTermList names tree text))
+WrittenSpelling = (names tree : List ℕ) (room n : ℕ) → writeTermOutcome names tree room ≡ result n → InSpelling names (bytesOf names tree)
 
 -- "Reading takes either spelling.": texts that are alike byte by byte get the same answer, whatever it is, and leave the same tree list
 abbrev pub EitherSpelling : Type 0
@@ -62,7 +61,8 @@ EitherSpelling =
     × (readTermList names text tree ≡ readTermList names other tree)
 
 -- "Older names lists hold `Probe`, newer ones `probe`": names lists that are alike byte by byte, whether they keep to the rules or not. Reading
--- gives the same answer and leaves the same tree list; writing gives the same answer and leaves text lists that are alike
+-- the text gives the same answer and leaves the same tree list; writing the tree gives the same answer and leaves text lists that are alike. (Each
+-- of `text` and `tree` is what one operation takes and the list that is lent to the other.)
 abbrev pub EitherList : Type 0
 EitherList =
     (names other text tree : List ℕ) → EachAlike names other

@@ -20,11 +20,11 @@ unfoldable pub nameEnd : List ℕ → ℕ → Found
 nameEnd names at =
     if isName (lineAt (drop at names) 0 .bytes) && lineAt (drop at names) 0 .ended then At (at + length (lineAt (drop at names) 0 .bytes)) else Nothing
 
--- the first of the first n lines with this name
+-- the first of the first n lines whose name is equal to this
 abbrev pub nameFound : List ℕ → ℕ → List ℕ → Found
 nameFound names n name = firstWith (λ k. sameName (lineAt names k .bytes) name) n
 
--- the bucket of a name, one of 512: either spelling has the same (the law `same-bucket`)
+-- the bucket of a name, one of 512: equal names have the same (the law `same-bucket`)
 unfoldable pub hashOf : List ℕ → ℕ
 hashOf name = spread 8388608 (mixAll 0 (map lower name))
 
@@ -45,7 +45,7 @@ pub record Lined (names starts : List ℕ) (n : ℕ) : Type 0 where
   pub long : length starts ≡ 256
   pub stands : (k : ℕ) → k < n → Stands names (getD starts k 0) (getD starts (k + 1) 0) (lineAt names k .bytes)
 
--- the first n lines, no two of which have the same name, are indexed
+-- the first n lines, no two of which have equal names, are indexed
 pub record NamesIndexed (names starts heads next : List ℕ) (n : ℕ) : Type 0 where
   pub lined : Lined names starts n
   pub chains : Chains (bucketOf names) 512 256 n heads next

@@ -149,7 +149,7 @@ pub fn name_at<'a>(names: &'a [u8], starts: &[u16; 256], n: usize, k: usize) -> 
     &names[from..end]
 }
 
-// The line among the first n with this name, whose bucket is b.
+// The line among the first n whose name is equal to this; b is its bucket.
 fn find_in(
     names: &[u8],
     starts: &[u16; 256],
@@ -174,7 +174,7 @@ fn find_in(
     Found::Nothing
 }
 
-// The line among the first n with this name.
+// The line among the first n whose name is equal to this.
 pub fn find_name(
     names: &[u8],
     starts: &[u16; 256],
