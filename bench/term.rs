@@ -311,12 +311,13 @@ fn bucket(name: &[u8]) -> u64 {
     h * 2654435769 % 4294967296 / 8388608
 }
 
-/// The same, with names that all fall into one bucket.
+/// 255 names of 24 bytes that differ in the last four and all fall into one bucket. (Of those that differ in three there
+/// are about 107 to a bucket.)
 fn one_bucket(draw: &mut Draw) -> Vec<Vec<u8>> {
-    let first = name(draw, 21);
+    let first = name(draw, 20);
     let b = draw.below(512) as u64;
     names_list(draw, 255, &mut |draw| loop {
-        let name = [&first[..], &name(draw, 4)[1..]].concat();
+        let name = [&first[..], &name(draw, 5)[1..]].concat();
         if bucket(&name) == b {
             return name;
         }
