@@ -1,5 +1,5 @@
 -- Laws of bytes that are alike, and of names that are equal.
-use Prim.Native.Nat.{ℕ, _+_}
+use Prim.Native.Nat.{ℕ, _+_, _≤_}
 use mathlib.Core.Path.{_≡_, refl, ap, sym, _∙_}
 use mathlib.Core.Bool.{Bool, true, false, _&&_, _||_}
 use mathlib.Core.List.{List, [], _∷_, map}
@@ -18,36 +18,53 @@ use Rattle.model.proofs.Bytes.{letter-byte}
 
 -- ---- a byte in small
 
+-- a letter that `lower` moves: from A to Z
+abbrev capital : ℕ → Bool
+capital b = between 65 90 b
+
+capital-from : (b : ℕ) → capital b ≡ true → 65 ≤ b
+capital-from b e = leb-true 65 b (and-true (leb 65 b) _ e .0)
+
+capital-to : (b : ℕ) → capital b ≡ true → b ≤ 90
+capital-to b e = leb-true b 90 (and-true (leb 65 b) _ e .1)
+
+between-in : (low high b : ℕ) → low ≤ b → b ≤ high → between low high b ≡ true
+between-in low high b l h = and-both (leb low b) (leb b high) (le-leb low b l) (le-leb b high h)
+
 -- a letter stays a letter, another byte stays as it is
 pub lower-letter : (b : ℕ) → isLetter (lower b) ≡ isLetter b
 unfolding lower isLetter
-lower-letter b = go (between 65 90 b) refl
+lower-letter b = go (capital b) (capital-from b) (capital-to b)
   where
-    go : (t : Bool) → between 65 90 b ≡ t
-        → (between 65 90 (if t then b + 32 else b) || between 97 122 (if t then b + 32 else b)) ≡ (between 65 90 b || between 97 122 b)
-    go true e =
-        let p = and-true (leb 65 b) (leb b 90) e in
-        or-right (between 65 90 (b + 32)) (between 97 122 (b + 32))
-        (and-both (leb 97 (b + 32)) (leb (b + 32) 122)
-        (le-leb 97 (b + 32) (omega (arith, leb-true 65 b (p .0)))) (le-leb (b + 32) 122 (omega (arith, leb-true b 90 (p .1)))))
-        ∙ sym (or-left (between 65 90 b) (between 97 122 b) e)
-    go false e = refl
+    letter : ℕ → Bool
+    letter x = between 65 90 x || between 97 122 x
+
+    go : (t : Bool) → (t ≡ true → 65 ≤ b) → (t ≡ true → b ≤ 90) → letter (if t then b + 32 else b) ≡ letter b
+    go true f g =
+        let l = f refl in
+        let h = g refl in
+        or-right (between 65 90 (b + 32)) (between 97 122 (b + 32)) (between-in 97 122 (b + 32) (omega arith) (omega arith))
+        ∙ sym (or-left (between 65 90 b) (between 97 122 b) (between-in 65 90 b l h))
+    go false f g = refl
 
 pub lower-other : (b : ℕ) → isLetter b ≡ false → lower b ≡ b
 unfolding lower isLetter
-lower-other b e = if-no (between 65 90 b) (b + 32) b (or-false (between 65 90 b) (between 97 122 b) e .0)
+lower-other b e =
+    if-no (capital b) (b + 32) b
+    (is-false (capital b) (λ f. not-both (between 65 90 b) (between-in 65 90 b (capital-from b f) (capital-to b f)) (or-false (between 65 90 b) (between 97 122 b) e .0)))
 
 lower-twice : (b : ℕ) → lower (lower b) ≡ lower b
 unfolding lower
-lower-twice b = go (between 65 90 b) refl
+lower-twice b = go (capital b) refl
   where
-    go : (t : Bool) → between 65 90 b ≡ t
-        → (if between 65 90 (if t then b + 32 else b) then (if t then b + 32 else b) + 32 else (if t then b + 32 else b)) ≡ (if t then b + 32 else b)
+    small : Bool → ℕ
+    small t = if t then b + 32 else b
+
+    go : (t : Bool) → capital b ≡ t → (if capital (small t) then small t + 32 else small t) ≡ small t
     go true e =
-        let l = leb-true 65 b (and-true (leb 65 b) (leb b 90) e .0) in
-        if-no (between 65 90 (b + 32)) (b + 32 + 32) (b + 32)
-        (is-false _ (λ f. omega (arith, leb-true (b + 32) 90 (and-true (leb 65 (b + 32)) (leb (b + 32) 90) f .1))))
-    go false e = if-no (between 65 90 b) (b + 32) b e
+        let l = capital-from b e in
+        if-no (capital (b + 32)) (b + 32 + 32) (b + 32) (is-false (capital (b + 32)) (λ f. omega (arith, capital-to (b + 32) f)))
+    go false e = if-no (capital b) (b + 32) b e
 
 -- ---- when two bytes are alike
 

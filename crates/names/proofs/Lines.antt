@@ -2,7 +2,7 @@
 use Prim.Native.Nat.{ℕ, suc, _+_, _-_, _*_, _<_, _≤_}
 use mathlib.Core.Path.{_≡_, refl, sym, ap, _∙_}
 use mathlib.Core.Bool.{Bool, true, false, _&&_, _||_, not, and-true as and-yes, and-false, or-true}
-use mathlib.Core.List.{List, [], _∷_, _++_, append-assoc, append-nil, head-eq-of-cons-eq, tail-eq-of-cons-eq}
+use mathlib.Core.List.{List, [], _∷_, _++_, map, append-assoc, append-nil, head-eq-of-cons-eq, tail-eq-of-cons-eq}
 use native.Mathlib.Omega.{arith}
 use native.Mathlib.Nat.{pos-of-ne-zero}
 use lib.ListN.{length, getD, set, take, drop, length-append, length-drop, length-set, drop-of-length-le, replicate, length-replicate, getD-replicate}
@@ -23,8 +23,8 @@ use Rattle.chains.specs.declared.Found.the-variants.{At, Nothing}
 use Rattle.chains.proofs.First.{first-none, first-is, apart}
 use Rattle.chains.proofs.Chains.{chained, chains-begin}
 use Rattle.model.proofs.Lists.{drop-next}
-use Rattle.names.proofs.Bytes.{run-more}
-use Rattle.names.specs.NamesIndex.{nameEnd, nameFound, hashOf, bucketOf, Stands, NamesIndexed, Started, NamesAnswer}
+use Rattle.names.proofs.Bytes.{run-more, caseless-small}
+use Rattle.names.specs.NamesIndex.{nameEnd, nameFound, caseless, hashOf, bucketOf, Stands, NamesIndexed, Started, NamesAnswer}
 use Rattle.names.specs.declared.NamesCheck.the-variants.{Faulty, Sound as NamesSound}
 
 too-long : (n : List ℕ) → isName n ≡ true → 24 < length n → ⊥
@@ -306,6 +306,7 @@ module _ {names starts heads next : List ℕ} {n at : ℕ} (s : Sofar names star
             within = fits .0;
             part = ap (λ (i : ℕ). take i (drop at names)) (let z : length (lineAt names n .bytes) ≡ end - at = omega (arith, end-is) in z) ∙ part-is;
             short = short;
+            clean = name-bytes (lineAt names n .bytes) is-name;
           })
 
       apart-more : (j k : ℕ) → j < k → k < n + 1 → (t : Bool) → ltb k n ≡ t → sameName (lineAt names j .bytes) (lineAt names k .bytes) ≡ false
@@ -361,7 +362,8 @@ sought names name k = sameName (lineAt names k .bytes) name
 -- equal names have equal buckets
 pub same-bucket : (a b : List ℕ) → sameName a b ≡ true → hashOf a ≡ hashOf b
 unfolding hashOf
-same-bucket a b e = ap (λ (x : List ℕ). spread 8388608 (mixAll 0 x)) (same-folded a b e)
+same-bucket a b e =
+    ap (λ (x : List ℕ). spread 8388608 (mixAll 0 x)) (sym (caseless-small a) ∙ ap (map caseless) (same-folded a b e) ∙ caseless-small b)
 
 -- it is in the name's bucket
 pub name-bucket : (names name : List ℕ) (b : ℕ) → b ≡ hashOf name → (k : ℕ) → sought names name k ≡ true → bucketOf names k ≡ b

@@ -1,12 +1,13 @@
 -- The lines of a names list as the code holds them, and the index of names. Assumes nothing: these are definitions.
 use Prim.Native.Nat.{ℕ, _+_, _<_, _≤_}
 use mathlib.Core.Path.{_≡_}
-use mathlib.Core.Bool.{false, _&&_}
+use mathlib.Core.Bool.{true, false, _&&_}
 use mathlib.Core.List.{List, map}
 use lib.ListN.{length, getD, take, drop}
+use lib.Bits.{bitOr}
 use Rattle.model.specs.Answers.{Outcome, refused}
 use Rattle.model.specs.Choice.{if_then_else_}
-use Rattle.model.specs.Names.{isName, lower, sameName, lineAt, howManyNames, namesThen}
+use Rattle.model.specs.Names.{allNameBytes, isName, sameName, lineAt, howManyNames, namesThen}
 use Rattle.chains.specs.First.{firstWith}
 use Rattle.chains.specs.Hash.{mixAll, spread}
 use Rattle.chains.specs.Chains.{Chains}
@@ -24,20 +25,25 @@ nameEnd names at =
 abbrev pub nameFound : List ℕ → ℕ → List ℕ → Found
 nameFound names n name = firstWith (λ k. sameName (lineAt names k .bytes) name) n
 
+-- a byte with the bit set by which a small letter differs from the capital one
+abbrev pub caseless : ℕ → ℕ
+caseless b = bitOr b 32
+
 -- the bucket of a name, one of 512: equal names have the same (the law `same-bucket`)
 unfoldable pub hashOf : List ℕ → ℕ
-hashOf name = spread 8388608 (mixAll 0 (map lower name))
+hashOf name = spread 8388608 (mixAll 0 (map caseless name))
 
 -- the bucket of the name on line k
 abbrev pub bucketOf : List ℕ → ℕ → ℕ
 bucketOf names k = hashOf (lineAt names k .bytes)
 
--- a line of the list: its bytes stand from a place on, and the next line begins after them and byte 10
+-- a line of the list: its name bytes stand from a place on, and the next line begins after them and byte 10
 pub record Stands (names : List ℕ) (from next : ℕ) (bytes : List ℕ) : Type 0 where
   pub ends : next ≡ from + length bytes + 1
   pub within : next ≤ length names
   pub part : take (length bytes) (drop from names) ≡ bytes
   pub short : length bytes ≤ 24
+  pub clean : allNameBytes bytes ≡ true
 
 -- the first n lines begin at their starts
 pub record Lined (names starts : List ℕ) (n : ℕ) : Type 0 where

@@ -2,12 +2,13 @@
 use chains::Found;
 use chains::wide;
 ghost use mathlib.Core.Path.{_≡_};
+ghost use mathlib.Core.Bool.{true};
 ghost use Prim.Native.Nat.{_+_, _<_, _≤_};
 ghost use lib.ListN.{length, drop};
-ghost use Rattle.model.specs.Names.{isLetter, isNameByte, lower, alike, sameName, lineAt};
+ghost use Rattle.model.specs.Names.{isLetter, isNameByte, allNameBytes, alike, sameName, lineAt};
 ghost use Rattle.model.specs.Term.{run};
 ghost use Rattle.chains.specs.Chains.{Clear};
-ghost use Rattle.names.specs.NamesIndex.{nameEnd, hashOf, nameFound, Lined, NamesIndexed, Started, NamesAnswer};
+ghost use Rattle.names.specs.NamesIndex.{nameEnd, caseless, hashOf, nameFound, Lined, NamesIndexed, Started, NamesAnswer};
 
 // What checking a names list finds: it keeps to the rules, and how many names it has, or the first faulty line.
 pub enum NamesCheck {
@@ -47,32 +48,31 @@ pub fn is_name_byte(b: u8) -> bool
     b == b'_'
 }
 
-// A capital letter as the small one; any other byte as it is.
-fn small(b: u8) -> u64
-    ensures { λ r. ⌜ (r ≡ lower b) × (r < 256) ⌝ }
+// A byte with the bit set by which a small letter differs from the capital one.
+fn caseless(b: u8) -> u64
+    ensures { λ r. ⌜ (r ≡ caseless b) × (r < 256) ⌝ }
 {
-    let x = b as u64;
-    if b < b'A' {
-        return x;
-    }
-    if b'Z' < b {
-        return x;
-    }
-    x + 32
+    b as u64 | 32
 }
 
-// Whether two bytes are the same but for the case of a letter.
+// Whether a byte of a name and any byte are the same but for the case of a letter. With the bit set, bytes below `-` and above `z`,
+// which are in no name, may be the same as a digit, `-` or `_`.
 fn alike(a: u8, b: u8) -> bool
+    requires { ⌜ isNameByte a ≡ true ⌝ }
     ensures { λ r. ⌜ r ≡ alike a b ⌝ }
 {
-    if a == b {
-        return true;
+    if caseless(a) != caseless(b) {
+        return false;
     }
-    small(a) == small(b)
+    if b'z' < b {
+        return false;
+    }
+    b'-' <= b
 }
 
-// Whether two names are equal.
-pub fn same_name(a: &[u8], b: &[u8]) -> bool
+// Whether a name, which the index has, and any bytes are equal.
+fn same_name(a: &[u8], b: &[u8]) -> bool
+    requires { ⌜ allNameBytes (now a) ≡ true ⌝ }
     ensures { λ r. ⌜ r ≡ sameName (now (a .entry)) (now (b .entry)) ⌝ }
 {
     if a.len() != b.len() {
@@ -132,7 +132,7 @@ fn hash(name: &[u8]) -> usize
     let mut h: u64 = 0;
     let mut i: usize = 0;
     while i < name.len() {
-        h = (h * 2654435769 + small(name[i])) % 4294967296;
+        h = (h * 2654435769 + caseless(name[i])) % 4294967296;
         i += 1;
     }
     (h * 2654435769 % 4294967296 / 8388608) as usize

@@ -26,6 +26,11 @@ loop-holds c = let st = c .before .before .before .before in
 name-at-requires : tie.Need-name-at-requires Inv-loop μ-loop
 name-at-requires c κs = (c .before .before .before .before .before .before .pre .0 .lined, omega (arith, c .before .loop .inv .within))
 
+same-name-requires : tie.Need-same-name-requires Inv-loop μ-loop
+same-name-requires c κs =
+    let q = c .before .before in
+    rw (c .name-at .ensures) (q .before .before .before .before .before .pre .0 .lined .stands (q .loop .p - 1) (omega (arith, q .loop .inv .within)) .clean)
+
 returns : tie.Need-returns Inv-loop μ-loop
 returns c = let q = c .before .before .before .before in
     let st = q .before .before .before .before .before in
@@ -55,7 +60,7 @@ find-in-spec =
     loop-holds
     (λ c. search needs)
     name-at-requires
-    (λ c κs. search needs)
+    same-name-requires
     returns
     (λ c. search needs) (λ c. search needs) (λ c κs. search needs)
     loop-less

@@ -5,6 +5,7 @@ use lib.ListN.{length, drop}
 use borrow.Author.Tests.{not-true, not-false}
 use Rattle.model.specs.Names.{alike, sameName}
 use Rattle.model.proofs.Lists.{same-step, same-end, same-length}
+use Rattle.names.proofs.Bytes.{byte-at}
 use Rattle.names.proofs.same_name.Statement.{statement}
 use borrow.Author.Needs.{needs}
 use Rattle.names.proofs.same_name.Tie as tie
@@ -20,6 +21,12 @@ returns c = sym (same-length alike _ _ (c .if1 .taken))
 
 loop-holds : tie.Need-loop-holds Inv-loop μ-loop
 loop-holds c = (omega arith, refl)
+
+alike-requires : tie.Need-alike-requires Inv-loop μ-loop
+alike-requires c κs =
+    let q = c .before .before .before in
+    let s = q .before .before .before .before in
+    byte-at (s .args .a .now) (q .loop .i) (s .pre) (c .before .before .loop-test .taken)
 
 returns-2 : tie.Need-returns-2 Inv-loop μ-loop
 returns-2 c = let q = c .before .before .before .before .before in
@@ -43,7 +50,8 @@ same-name-spec =
     μ-loop
     returns
     loop-holds
-    (λ c. search needs) (λ c. search needs) (λ c κs. search needs)
+    (λ c. search needs) (λ c. search needs)
+    alike-requires
     returns-2
     (λ c. search needs) (λ c. search needs)
     loop-again
