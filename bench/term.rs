@@ -306,8 +306,7 @@ fn alike(draw: &mut Draw) -> Vec<Vec<u8>> {
 
 /// The bucket of a name: the hash of crates/names/src/lib.rt.
 fn bucket(name: &[u8]) -> u64 {
-    let small = name.iter().map(u8::to_ascii_lowercase);
-    let h = small.fold(0, |h, b| (h * 2654435769 + u64::from(b)) % 4294967296);
+    let h = name.iter().fold(0, |h, &b| (h * 2654435769 + u64::from(b | 32)) % 4294967296);
     h * 2654435769 % 4294967296 / 8388608
 }
 

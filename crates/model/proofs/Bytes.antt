@@ -1,12 +1,13 @@
 -- Laws of name bytes and of names.
 use Prim.Native.Nat.{ℕ, _≤_, _<_}
 use mathlib.Core.Path.{_≡_, refl}
-use mathlib.Core.Bool.{true, false, _&&_}
+use mathlib.Core.Bool.{Bool, true, false, _&&_}
 use mathlib.Core.List.{List, [], _∷_, _++_}
 use native.Mathlib.Omega.{arith}
 use lib.ListN.{length, getD}
 use lib.Dec.{eqb, leb}
 use borrow.Author.Tests.{leb-true, le-leb, lt-leb, ne-eqb}
+use Rattle.model.specs.Choice.{if_then_else_}
 use Rattle.model.specs.Names.{isLetter, isNameByte, allNameBytes, isName}
 use Rattle.model.specs.Term.{run}
 use Rattle.model.proofs.Choice.{and-true, and-both, not-both}
@@ -96,3 +97,13 @@ pub run-all : (n ys : List ℕ) → allNameBytes n ≡ true → NoByte ys → ru
 unfolding run
 run-all [] ys e s = run-none ys s
 run-all (b ∷ bs) ys e s = rw (byte-first b bs e, run-all bs ys (byte-others b bs e) s)
+
+-- the bytes of a run are name bytes
+pub run-bytes : (bs : List ℕ) → allNameBytes (run bs) ≡ true
+unfolding run allNameBytes
+run-bytes [] = refl
+run-bytes (b ∷ bs) = go (isNameByte b) refl (run-bytes bs)
+  where
+    go : (t : Bool) → isNameByte b ≡ t → allNameBytes (run bs) ≡ true → allNameBytes (if t then b ∷ run bs else []) ≡ true
+    go true e ih = and-both (isNameByte b) (allNameBytes (run bs)) e ih
+    go false e ih = refl

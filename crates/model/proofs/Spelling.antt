@@ -15,7 +15,7 @@ use Rattle.model.specs.TermOperations.{symbolsOf, namesOf, treeOfTerm, t
 use Rattle.model.specs.Spelling.{spelt, respeltFrom, respelt, InSpelling, Respelling}
 use Rattle.model.proofs.Choice.{if-yes, if-no, if-zero, and-true, and-both, not-both}
 use Rattle.model.proofs.Lists.{same-long, same-append}
-use Rattle.model.proofs.Bytes.{open-no-byte, close-no-byte, comma-no-byte, end-no-byte, byte-first, byte-others, name-parts, name-bytes, NoByte, run-all}
+use Rattle.model.proofs.Bytes.{open-no-byte, close-no-byte, comma-no-byte, end-no-byte, byte-first, byte-others, name-parts, name-bytes, NoByte, run-all, run-bytes}
 use Rattle.model.proofs.Alike.{alike-refl, alike-lower, byte-alike, mark-alike, same-folded, folded-same, same-refl, same-sym, same-trans, same-exactly, same-bytes}
 use Rattle.model.proofs.Scan.{bracketed, following, text-after}
 use Rattle.model.proofs.Names.{Sound, symbol-alike, listed-alike, listed-line, name-of-symbol}
@@ -30,15 +30,6 @@ run-on b bs e = rw e
 run-mark : (b : ℕ) (bs : List ℕ) → isNameByte b ≡ false → run (b ∷ bs) ≡ []
 unfolding run
 run-mark b bs e = rw e
-
-run-bytes : (bs : List ℕ) → allNameBytes (run bs) ≡ true
-unfolding run allNameBytes
-run-bytes [] = refl
-run-bytes (b ∷ bs) = go (isNameByte b) refl (run-bytes bs)
-  where
-    go : (t : Bool) → isNameByte b ≡ t → allNameBytes (run bs) ≡ true → allNameBytes (if t then b ∷ run bs else []) ≡ true
-    go true e ih = and-both (isNameByte b) (allNameBytes (run bs)) e ih
-    go false e ih = refl
 
 -- the run in small
 pub run-small : (bs : List ℕ) → run (map lower bs) ≡ map lower (run bs)

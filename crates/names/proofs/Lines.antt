@@ -14,7 +14,7 @@ use Rattle.model.specs.Choice.{if_then_else_, anyBelow}
 use Rattle.model.specs.Names.{isLetter, isNameByte, allNameBytes, isName, sameName, Line, joined, linesOf, noLine, lineAt, howManyNames, lineWith, symbolOf, isListed, lineGround, namesThen}
 use Rattle.model.specs.Term.{run}
 use Rattle.model.proofs.Choice.{and-true, no-fault, fault-refused, none-more, any-none, any-true, is-false, not-both}
-use Rattle.model.proofs.Bytes.{letter-byte, byte-not-ten, end-no-byte, name-bytes, IsName, name-parts, name-made, byte-first, byte-others}
+use Rattle.model.proofs.Bytes.{letter-byte, byte-not-ten, end-no-byte, name-bytes, IsName, name-parts, name-made, byte-first, byte-others, run-bytes}
 use Rattle.model.proofs.Alike.{same-folded, same-sym, same-trans}
 use Rattle.model.proofs.Names.{first-ended, some-lines, no-lines, line-first, line-none}
 use Rattle.chains.specs.Hash.{mixAll, spread}
@@ -84,35 +84,31 @@ line-split (b ∷ bs) e = go (eqb b 10) refl (linesOf bs) refl (line-split bs) e
 -- ---- the line that begins at a place
 
 -- the run of name bytes there, and what comes after it
-run-split : (xs : List ℕ) → (xs ≡ run xs ++ drop (length (run xs)) xs) × (allNameBytes (run xs) ≡ true) × (isNameByte (getD xs (length (run xs)) 0) ≡ false)
-unfolding run allNameBytes
-run-split [] = (refl, refl, end-no-byte)
+run-split : (xs : List ℕ) → (xs ≡ run xs ++ drop (length (run xs)) xs) × (isNameByte (getD xs (length (run xs)) 0) ≡ false)
+unfolding run
+run-split [] = (refl, end-no-byte)
 run-split (b ∷ bs) = go (isNameByte b) refl (run-split bs)
   where
-    go : (t : Bool) → isNameByte b ≡ t → (bs ≡ run bs ++ drop (length (run bs)) bs) × (allNameBytes (run bs) ≡ true) × (isNameByte (getD bs (length (run bs)) 0) ≡ false)
+    go : (t : Bool) → isNameByte b ≡ t → (bs ≡ run bs ++ drop (length (run bs)) bs) × (isNameByte (getD bs (length (run bs)) 0) ≡ false)
         → ((b ∷ bs) ≡ (if t then b ∷ run bs else []) ++ drop (length (if t then b ∷ run bs else [])) (b ∷ bs))
-        × (allNameBytes (if t then b ∷ run bs else []) ≡ true)
         × (isNameByte (getD (b ∷ bs) (length (if t then b ∷ run bs else [])) 0) ≡ false)
-    go true e h = (ap (λ (x : List ℕ). b ∷ x) (h .0), rw e (h .1), h .2)
-    go false e h = (refl, refl, e)
+    go true e h = (ap (λ (x : List ℕ). b ∷ x) (h .0), h .1)
+    go false e h = (refl, e)
 
 -- where the run ends
 module _ (names : List ℕ) (at end : ℕ) (l : end ≡ at + length (run (drop at names))) where
   pub rest-is : drop at names ≡ run (drop at names) ++ drop end names
   rest-is = run-split (drop at names) .0 ∙ ap (λ (x : List ℕ). run (drop at names) ++ x) (drop-drop (length (run (drop at names))) at names ∙ ap (λ (i : ℕ). drop i names) (sym l))
 
-  pub clean : allNameBytes (run (drop at names)) ≡ true
-  clean = run-split (drop at names) .1
-
   pub end-byte : isNameByte (getD names end 0) ≡ false
-  end-byte = ap (λ (i : ℕ). isNameByte (getD names i 0)) l ∙ sym (ap (λ (x : ℕ). isNameByte x) (getD-drop at names (length (run (drop at names))) 0)) ∙ run-split (drop at names) .2
+  end-byte = ap (λ (i : ℕ). isNameByte (getD names i 0)) l ∙ sym (ap (λ (x : ℕ). isNameByte x) (getD-drop at names (length (run (drop at names))) 0)) ∙ run-split (drop at names) .1
 
   -- at the list's end
   pub end-open : end ≡ length names → Nothing ≡ nameEnd names at
   unfolding nameEnd
   end-open e =
       let r : drop at names ≡ run (drop at names) = rest-is ∙ ap (λ (x : List ℕ). run (drop at names) ++ x) (drop-of-length-le names {i = end} (omega arith)) ∙ append-nil (run (drop at names)) in
-      let f : lineAt (drop at names) 0 .ended ≡ false = ap (λ (x : List ℕ). lineAt x 0 .ended) r ∙ first-open (run (drop at names)) clean in
+      let f : lineAt (drop at names) 0 .ended ≡ false = ap (λ (x : List ℕ). lineAt x 0 .ended) r ∙ first-open (run (drop at names)) (run-bytes (drop at names)) in
       rw (f, and-false)
 
   -- before another byte than 10
@@ -121,7 +117,7 @@ module _ (names : List ℕ) (at end : ℕ) (l : end ≡ at + length (run (drop a
   end-bad m ne =
       let r : drop at names ≡ run (drop at names) ++ getD names end 0 ∷ drop (suc end) names = rest-is ∙ ap (λ (x : List ℕ). run (drop at names) ++ x) (drop-cons names end 0 m) in
       let f : allNameBytes (lineAt (drop at names) 0 .bytes) ≡ false =
-      ap (λ (x : List ℕ). allNameBytes (lineAt x 0 .bytes)) r ∙ first-bad (run (drop at names)) (getD names end 0) (drop (suc end) names) clean end-byte (ne-eqb (getD names end 0) 10 ne) in
+      ap (λ (x : List ℕ). allNameBytes (lineAt x 0 .bytes)) r ∙ first-bad (run (drop at names)) (getD names end 0) (drop (suc end) names) (run-bytes (drop at names)) end-byte (ne-eqb (getD names end 0) 10 ne) in
       let g : isName (lineAt (drop at names) 0 .bytes) ≡ false = is-false (isName (lineAt (drop at names) 0 .bytes)) (λ h. not-both (allNameBytes (lineAt (drop at names) 0 .bytes)) (name-bytes (lineAt (drop at names) 0 .bytes) h) f) in
       rw g
 
@@ -131,7 +127,7 @@ module _ (names : List ℕ) (at end : ℕ) (l : end ≡ at + length (run (drop a
     line-is =
         let r : drop at names ≡ run (drop at names) ++ 10 ∷ drop (suc end) names =
         rest-is ∙ ap (λ (x : List ℕ). run (drop at names) ++ x) (drop-cons names end 0 m ∙ ap (λ (x : ℕ). x ∷ drop (suc end) names) ten) in
-        ap (λ (x : List ℕ). lineAt x 0) r ∙ ap (λ (x : List Line). getD x 0 noLine) (first-ended (run (drop at names)) (drop (suc end) names) clean)
+        ap (λ (x : List ℕ). lineAt x 0) r ∙ ap (λ (x : List Line). getD x 0 noLine) (first-ended (run (drop at names)) (drop (suc end) names) (run-bytes (drop at names)))
 
     ended-by : nameEnd names at ≡ (if isName (run (drop at names)) then At end else Nothing)
     unfolding nameEnd
@@ -145,7 +141,7 @@ module _ (names : List ℕ) (at end : ℕ) (l : end ≡ at + length (run (drop a
     pub end-name : end - at ≤ 24 → isLetter (getD names at 0) ≡ true → At end ≡ nameEnd names at
     end-name h e =
         let q = run-more names at (omega (arith, l)) (letter-byte (getD names at 0) e) in
-        let c = byte-others (getD names at 0) (run (drop (at + 1) names)) (rw q at clean) in
+        let c = byte-others (getD names at 0) (run (drop (at + 1) names)) (rw q at (run-bytes (drop at names))) in
         let n = ap length q in
         let f : isName (run (drop at names)) ≡ true =
         ap (λ (x : List ℕ). isName x) q ∙ name-made (getD names at 0) (run (drop (at + 1) names)) e c (omega (arith, n, l)) in
@@ -282,6 +278,10 @@ module _ {names starts heads next : List ℕ} {n at : ℕ} (s : Sofar names star
 
     pub part-is : take (end - at) (drop at names) ≡ lineAt names n .bytes
     part-is = ap (λ (x : List ℕ). take (end - at) x) spot ∙ take-at (lineAt names n .bytes) (10 ∷ split .rest) (end - at) (omega (arith, end-is))
+
+    -- its bytes are name bytes
+    pub part-clean : allNameBytes (take (end - at) (drop at names)) ≡ true
+    part-clean = ap allNameBytes part-is ∙ name-bytes (lineAt names n .bytes) is-name
 
     -- the name stands on an earlier line
     pub again : (k : ℕ) → nameFound names n (take (end - at) (drop at names)) ≡ At k → (o : Outcome) → refused 17 n ≡ namesThen names o

@@ -5,7 +5,7 @@ ghost use mathlib.Core.Path.{_≡_};
 ghost use mathlib.Core.Bool.{true};
 ghost use Prim.Native.Nat.{_+_, _<_, _≤_};
 ghost use lib.ListN.{length, drop};
-ghost use Rattle.model.specs.Names.{isLetter, isNameByte, allNameBytes, alike, sameName, lineAt};
+ghost use Rattle.model.specs.Names.{isLetter, isNameByte, allNameBytes, sameName, lineAt};
 ghost use Rattle.model.specs.Term.{run};
 ghost use Rattle.chains.specs.Chains.{Clear};
 ghost use Rattle.names.specs.NamesIndex.{nameEnd, caseless, hashOf, nameFound, Lined, NamesIndexed, Started, NamesAnswer};
@@ -55,24 +55,10 @@ fn caseless(b: u8) -> u64
     b as u64 | 32
 }
 
-// Whether a byte of a name and any byte are the same but for the case of a letter. With the bit set, bytes below `-` and above `z`,
-// which are in no name, may be the same as a digit, `-` or `_`.
-fn alike(a: u8, b: u8) -> bool
-    requires { ⌜ isNameByte a ≡ true ⌝ }
-    ensures { λ r. ⌜ r ≡ alike a b ⌝ }
-{
-    if caseless(a) != caseless(b) {
-        return false;
-    }
-    if b'z' < b {
-        return false;
-    }
-    b'-' <= b
-}
-
-// Whether a name, which the index has, and any bytes are equal.
+// Whether two names are equal. Of name bytes, just those that are alike are the same with the bit set.
 fn same_name(a: &[u8], b: &[u8]) -> bool
     requires { ⌜ allNameBytes (now a) ≡ true ⌝ }
+    requires { ⌜ allNameBytes (now b) ≡ true ⌝ }
     ensures { λ r. ⌜ r ≡ sameName (now (a .entry)) (now (b .entry)) ⌝ }
 {
     if a.len() != b.len() {
@@ -80,7 +66,7 @@ fn same_name(a: &[u8], b: &[u8]) -> bool
     }
     let mut i: usize = 0;
     while i < a.len() {
-        if !alike(a[i], b[i]) {
+        if caseless(a[i]) != caseless(b[i]) {
             return false;
         }
         i += 1;
@@ -161,6 +147,7 @@ fn find_in(
 ) -> Found
     requires { ⌜ NamesIndexed (now names) (now starts) (now heads) (now next) n ⌝ }
     requires { ⌜ (b ≡ hashOf (now name)) × (b < 512) ⌝ }
+    requires { ⌜ allNameBytes (now name) ≡ true ⌝ }
     ensures { λ r. ⌜ r ≡ nameFound (now (names .entry)) n (now (name .entry)) ⌝ }
 {
     let mut p = wide(heads[b]);
@@ -184,6 +171,7 @@ pub fn find_name(
     name: &[u8],
 ) -> Found
     requires { ⌜ NamesIndexed (now names) (now starts) (now heads) (now next) n ⌝ }
+    requires { ⌜ allNameBytes (now name) ≡ true ⌝ }
     ensures { λ r. ⌜ r ≡ nameFound (now (names .entry)) n (now (name .entry)) ⌝ }
 {
     find_in(names, starts, heads, next, n, hash(name), name)

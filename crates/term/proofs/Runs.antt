@@ -14,12 +14,12 @@ use Rattle.model.specs.Names.{isNameByte, allNameBytes, symbolOf, isListed, how
 use Rattle.model.specs.Term.{run, nameBegins, nameAt}
 use Rattle.model.specs.TermOperations.{nameGround}
 use Rattle.model.proofs.Choice.{no-fault, fault-refused}
-use Rattle.model.proofs.Bytes.{NoByte, byte-first, byte-others}
+use Rattle.model.proofs.Bytes.{NoByte, byte-first, byte-others, run-bytes}
 use Rattle.model.proofs.Lists.{drop-next}
 use Rattle.chains.specs.declared.Found.the-variants.{At, Nothing}
 use Rattle.names.specs.NamesIndex.{nameFound}
 use Rattle.names.proofs.Bytes.{run-more}
-use Rattle.names.proofs.Lines.{rest-is, clean, end-byte, found-listed, not-found-listed}
+use Rattle.names.proofs.Lines.{rest-is, end-byte, found-listed, not-found-listed}
 use Rattle.term.specs.Emit.{nodeEntries, emitted, nameCount}
 use Rattle.term.specs.Written.{Listing}
 use Rattle.term.specs.declared.Lookup.the-variants.{All, Unlisted}
@@ -76,11 +76,15 @@ module _ (names text : List ℕ) (i end : ℕ) (l : i < length text) (e : isName
   pub part-is : take (end - i) (drop i text) ≡ nameAt text i
   part-is = ap (λ (x : List ℕ). take (end - i) x) (rest-is text i end q) ∙ take-at (run (drop i text)) (drop end text) (end - i) (omega arith)
 
+  -- its bytes are name bytes
+  pub part-clean : allNameBytes (take (end - i) (drop i text)) ≡ true
+  part-clean = ap allNameBytes part-is ∙ run-bytes (drop i text)
+
   after-byte : NoByte (drop end text)
   after-byte = ap (λ (x : ℕ). isNameByte x) (getD-drop end text 0 0 ∙ ap (λ (j : ℕ). getD text j 0) (let z : end + 0 ≡ end = omega arith in z)) ∙ end-byte text i end q
 
   bytes : allNameBytes (getD text i 0 ∷ run (drop (i + 1) text)) ≡ true
-  bytes = ap (λ (x : List ℕ). allNameBytes x) (sym run-is) ∙ clean text i end q
+  bytes = ap (λ (x : List ℕ). allNameBytes x) (sym run-is) ∙ run-bytes (drop i text)
 
   whole : drop i text ≡ (getD text i 0 ∷ run (drop (i + 1) text)) ++ drop end text
   whole = rest-is text i end q ∙ ap (λ (x : List ℕ). x ++ drop end text) run-is
@@ -113,7 +117,7 @@ module _ (names text : List ℕ) (i end : ℕ) (l : i < length text) (e : isName
       let a = getD-drop i text (j - i) 0 in
       let b = ap (λ (x : List ℕ). getD x (j - i) 0) (rest-is text i end q) in
       let c = List·getD-append (run (drop i text)) (drop end text) 0 (j - i) (omega (arith, q)) in
-      ap (λ (x : ℕ). isNameByte x) (ap (λ (x : ℕ). getD text x 0) (sym k) ∙ sym a ∙ b ∙ c) ∙ all-bytes (run (drop i text)) (j - i) (clean text i end q) (omega (arith, q))
+      ap (λ (x : ℕ). isNameByte x) (ap (λ (x : ℕ). getD text x 0) (sym k) ∙ sym a ∙ b ∙ c) ∙ all-bytes (run (drop i text)) (j - i) (run-bytes (drop i text)) (omega (arith, q))
 
   -- no other name begins in it
   pub run-grounds : nameGround names text i ≡ 0 → ((j : ℕ) → j < i → nameGround names text j ≡ 0) → (j : ℕ) → j < end → nameGround names text j ≡ 0

@@ -4,7 +4,7 @@ use mathlib.Core.Path.{_≡_, sym, _∙_}
 use lib.ListN.{length}
 use Rattle.chains.specs.declared.Found.the-variants.{At}
 use Rattle.names.specs.NamesIndex.{nameEnd}
-use Rattle.names.proofs.Lines.{Sofar, begins, too-many, no-name, fits, again, entered, short-end, no-lines-at-all, faulty-line, sound-list}
+use Rattle.names.proofs.Lines.{Sofar, begins, too-many, no-name, fits, part-clean, again, entered, short-end, no-lines-at-all, faulty-line, sound-list}
 use Rattle.names.proofs.check_names.Statement.{statement}
 use borrow.Author.Needs.{needs}
 use Rattle.names.proofs.check_names.Tie as tie
@@ -38,7 +38,9 @@ part-name-end : tie.Need-part-name-end Inv-loop μ-loop
 part-name-end c = omega (arith, fits (c .before .before .before .before .before .before .loop .inv) (c .before .before .before .before .before .loop-test .taken) _ (told c))
 
 find-in-requires : tie.Need-find-in-requires Inv-loop μ-loop
-find-in-requires c κs = (c .before .before .before .before .before .before .before .before .before .before .before .loop .inv .known, c .before .before .before .hash .ensures)
+find-in-requires c κs =
+    let q = c .before .before .before .before .before .before .before .before .before .before .before in
+    (q .loop .inv .known, (c .before .before .before .hash .ensures, part-clean (q .loop .inv) (c .before .before .before .before .before .before .before .before .before .before .loop-test .taken) _ (told (c .before .before .before .before .before))))
 
 returns-3 : tie.Need-returns-3 Inv-loop μ-loop
 returns-3 c = faulty-line _ (again (c .before .before .before .before .before .before .before .before .before .before .before .before .before .before .loop .inv) (c .before .before .before .before .before .before .before .before .before .before .before .before .before .loop-test .taken) _ (told (c .before .before .before .before .before .before .before .before)) _ (sym (c .before .before .find-in .ensures) ∙ c .enum-told2 .given .1))

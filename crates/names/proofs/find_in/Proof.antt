@@ -21,7 +21,7 @@ asked c = c .same-name .ensures ∙ ap (λ (x : List ℕ). sameName x (c .before
 
 loop-holds : tie.Need-loop-holds Inv-loop μ-loop
 loop-holds c = let st = c .before .before .before .before in
-    rw (c .wide .ensures) (walk-begins _ _ _ (name-bucket (st .args .names .now) _ _ (st .pre .1 .0)) (st .pre .0 .chains) (st .pre .1 .1))
+    rw (c .wide .ensures) (walk-begins _ _ _ (name-bucket (st .args .names .now) _ _ (st .pre .1 .0 .0)) (st .pre .0 .chains) (st .pre .1 .0 .1))
 
 name-at-requires : tie.Need-name-at-requires Inv-loop μ-loop
 name-at-requires c κs = (c .before .before .before .before .before .before .pre .0 .lined, omega (arith, c .before .loop .inv .within))
@@ -29,7 +29,8 @@ name-at-requires c κs = (c .before .before .before .before .before .before .pre
 same-name-requires : tie.Need-same-name-requires Inv-loop μ-loop
 same-name-requires c κs =
     let q = c .before .before in
-    rw (c .name-at .ensures) (q .before .before .before .before .before .pre .0 .lined .stands (q .loop .p - 1) (omega (arith, q .loop .inv .within)) .clean)
+    let st = q .before .before .before .before .before in
+    (rw (c .name-at .ensures) (st .pre .0 .lined .stands (q .loop .p - 1) (omega (arith, q .loop .inv .within)) .clean), st .pre .1 .1)
 
 returns : tie.Need-returns Inv-loop μ-loop
 returns c = let q = c .before .before .before .before in
@@ -45,7 +46,7 @@ loop-again : tie.Need-loop-again Inv-loop μ-loop
 loop-again c = let q = c .before .before .before .before .before .before in
     let st = q .before .before .before .before .before in
     let told = sym (asked (c .before .before .before)) ∙ c .before .before .if1 .left in
-    rw (c .wide2 .ensures) (walk-goes _ _ _ (name-bucket (st .args .names .now) _ _ (st .pre .1 .0)) (st .pre .0 .chains) (q .loop .p) (q .loop .inv) (c .before .before .before .before .before .loop-test .taken) told)
+    rw (c .wide2 .ensures) (walk-goes _ _ _ (name-bucket (st .args .names .now) _ _ (st .pre .1 .0 .0)) (st .pre .0 .chains) (q .loop .p) (q .loop .inv) (c .before .before .before .before .before .loop-test .taken) told)
 
 returns-2 : tie.Need-returns-2 Inv-loop μ-loop
 returns-2 c = walk-ends _ _ _ (c .before .loop .p) (c .before .loop .inv) (c .loop-test .left)

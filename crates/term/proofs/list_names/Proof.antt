@@ -5,7 +5,7 @@ use mathlib.Core.Bool.{true, false}
 use Rattle.model.proofs.Choice.{none-more}
 use Rattle.model.specs.Names.{isNameByte}
 use lib.ListN.{length, getD}
-use Rattle.term.proofs.Runs.{Counted, counted-first, counted-all, counted-stop, other-ground, other-fresh, other-count, longer, run-count, run-fresh, run-grounds, listed-ground, unlisted-ground}
+use Rattle.term.proofs.Runs.{Counted, counted-first, counted-all, counted-stop, other-ground, other-fresh, other-count, longer, run-count, run-fresh, run-grounds, part-clean, listed-ground, unlisted-ground}
 use Rattle.term.proofs.list_names.Statement.{statement}
 use borrow.Author.Needs.{needs}
 use Rattle.term.proofs.list_names.Tie as tie
@@ -35,7 +35,10 @@ part-find-name-end : tie.Need-part-find-name-end Inv-loop μ-loop
 part-find-name-end c = omega (arith, c .run-end .ensures)
 
 find-name-requires : tie.Need-find-name-requires Inv-loop μ-loop
-find-name-requires c κs = c .before .before .before .before .before .before .before .before .before .pre .0
+find-name-requires c κs =
+    let q = c .before .before .before .before .before .before in
+    let st = q .before .before .before in
+    (st .pre .0, part-clean (st .args .names .now) (st .args .text .now) (q .loop .i) _ (c .before .before .before .before .before .loop-test .taken) (byte (c .before .before)) (c .before .run-end .ensures .0))
 
 returns : tie.Need-returns Inv-loop μ-loop
 returns c = let st = c .before .before .before .before .before .before .before .before .before .before .before .before in

@@ -4,6 +4,7 @@ use mathlib.Core.Path.{_≡_, refl, sym, ap, _∙_}
 use mathlib.Core.Bool.{Bool, true, false, not}
 use lib.ListN.{length, getD}
 use Rattle.model.specs.Names.{isNameByte}
+use Rattle.term.proofs.Runs.{part-clean}
 use Rattle.term.proofs.Entering.{Entering, enter-first, enter-last, enter-length, close-fits, closed, passed, past, not-missing, line-below, node-fits, node-put}
 use Rattle.term.proofs.put_entries.Statement.{statement}
 use borrow.Author.Needs.{needs}
@@ -40,7 +41,10 @@ part-find-name-end : tie.Need-part-find-name-end Inv-loop μ-loop
 part-find-name-end c = omega (arith, c .run-end .ensures)
 
 find-name-requires : tie.Need-find-name-requires Inv-loop μ-loop
-find-name-requires c κs = c .before .before .before .before .before .before .before .before .before .before .pre .0
+find-name-requires c κs =
+    let q = c .before .before .before .before .before .before in
+    let st = q .before .before .before .before in
+    (st .pre .0, part-clean (st .args .names .now) (st .args .text .now) (q .loop .i) _ (c .before .before .before .before .before .loop-test .taken) (byte (c .before .before)) (c .before .run-end .ensures .0))
 
 add-put-node : tie.Need-add-put-node Inv-loop μ-loop
 add-put-node c = omega (arith, low (c .before))
