@@ -1,12 +1,12 @@
 -- "Reading takes either spelling.": what is printed depends on the input through its bytes in small alone.
-use Prim.Native.Nat.{ℕ, _≤_}
+use Prim.Native.Nat.{ℕ}
 use mathlib.Core.Path.{_≡_, refl, ap, sym, _∙_}
 use mathlib.Core.Bool.{Bool, true, false}
 use mathlib.Core.List.{List, [], _∷_, _++_, map}
 use native.Mathlib.Omega.{arith}
 use lib.ListN.{length, length-map}
 use lib.Dec.{ltb, leb}
-use borrow.Author.Tests.{leb-true, lt-leb}
+use borrow.Author.Tests.{leb-true}
 use Rattle.model.specs.Answers.{Outcome, result, refused}
 use Rattle.model.specs.Choice.{if_then_else_}
 use Rattle.model.specs.Names.{isLetter, lower, Line, linesOf, namesThen}
@@ -14,6 +14,7 @@ use Rattle.model.specs.Number.{numberOutcome}
 use Rattle.model.specs.Term.{Scan, passes, breaksAt, due, scan, termThen}
 use Rattle.model.specs.TermOperations.{entriesOf, readTermOutcome}
 use Rattle.model.proofs.Choice.{and-true, not-both, is-false}
+use Rattle.model.proofs.Bytes.{letter-below}
 use Rattle.model.proofs.Alike.{lower-letter, lower-other}
 use Rattle.model.proofs.Scan.{scan-whole, whole-term}
 use Rattle.model.proofs.Inverse.{read-back}
@@ -22,12 +23,8 @@ use Rattle.line.specs.Lines.{isDigit, allDigits, isNumber, numberIn, pri
 
 -- ---- a line of digits stays as it is
 
-low : (b : ℕ) → b ≤ 57 → isLetter b ≡ false
-unfolding isLetter
-low b l = rw (lt-leb 65 b (omega arith), lt-leb 97 b (omega arith))
-
 letter-no-digit : (b : ℕ) → isLetter b ≡ true → isDigit b ≡ false
-letter-no-digit b e = is-false (isDigit b) (λ f. not-both (isLetter b) e (low b (leb-true b 57 (and-true (leb 48 b) (leb b 57) f .1))))
+letter-no-digit b e = is-false (isDigit b) (λ f. not-both (isLetter b) e (letter-below b (omega (arith, leb-true b 57 (and-true (leb 48 b) (leb b 57) f .1)))))
 
 digit-small : (b : ℕ) → isDigit (lower b) ≡ isDigit b
 digit-small b = go (isLetter b) refl
@@ -68,11 +65,7 @@ unfolding readTermOutcome termThen
 read-broken names text place room e = rw e
 
 passes-no : (place : ℕ) → passes ≡ breaksAt place → ⊥
-passes-no place e = let z : _≡_ {A = ℕ} 0 1 = ap number e in absurd (omega arith)
-  where
-    number : Scan → ℕ
-    number passes = 0
-    number (breaksAt p) = 1
+passes-no place e = let z : _≡_ {A = ℕ} 0 1 = cc in absurd (omega arith)
 
 broken-same : (names text : List ℕ) (place : ℕ) → scan (due 0) 0 text ≡ breaksAt place → (next other : Outcome)
     → andThen (broken names text place) next ≡ andThen (broken names text place) other

@@ -17,6 +17,11 @@ pub letter-byte : (b : ℕ) → isLetter b ≡ true → isNameByte b ≡ true
 unfolding isNameByte
 letter-byte b e = rw e
 
+-- the lowest letter is `A`, 65
+pub letter-below : (b : ℕ) → b < 65 → isLetter b ≡ false
+unfolding isLetter
+letter-below b l = rw (lt-leb 65 b l, lt-leb 97 b (omega arith))
+
 -- the lowest name byte is `-`, 45
 low-no-byte : (b : ℕ) → b < 45 → isNameByte b ≡ false
 unfolding isNameByte isLetter

@@ -1,11 +1,12 @@
 -- Laws of the list's spelling: of a name, of a text, and of the text of a term.
-use Prim.Native.Nat.{ℕ, zero, suc, _-_, _≤_, _<_}
+use Prim.Native.Nat.{ℕ, zero, suc, _+_, _-_, _≤_, _<_}
 use mathlib.Core.Path.{_≡_, refl, ap, sym, subst, _∙_}
 use mathlib.Core.Bool.{Bool, true, false, not, _&&_}
 use mathlib.Core.List.{List, [], _∷_, _++_, append-assoc, append-nil, map}
 use native.Mathlib.Omega.{arith}
 use native.Mathlib.Nat.{not-suc-le-zero, le-of-suc-le-suc}
 use lib.ListN.{length, getD, drop, List·getD-map}
+use lib.Seq.{drop-append-add}
 use borrow.Author.Tests.{not-false}
 use Rattle.model.specs.Choice.{if_then_else_}
 use Rattle.model.specs.Table.{sameBy}
@@ -221,11 +222,12 @@ module _ (names : List ℕ) where
 
   -- what follows two lists as long is the same
   drop-past : (xs ys zs : List ℕ) (i : ℕ) → length xs ≡ length ys → length xs ≤ i → drop i (xs ++ zs) ≡ drop i (ys ++ zs)
-  drop-past [] [] zs i e l = refl
-  drop-past [] (y ∷ ys) zs i e l = absurd (omega arith)
-  drop-past (x ∷ xs) [] zs i e l = absurd (omega arith)
-  drop-past (x ∷ xs) (y ∷ ys) zs zero e l = absurd (not-suc-le-zero l)
-  drop-past (x ∷ xs) (y ∷ ys) zs (suc i) e l = drop-past xs ys zs i (omega arith) (le-of-suc-le-suc l)
+  drop-past xs ys zs i e l =
+      let f : i ≡ length xs + (i - length xs) = omega arith in
+      let g : i ≡ length ys + (i - length xs) = omega arith in
+      ap (λ (k : ℕ). drop k (xs ++ zs)) f
+      ∙ drop-append-add xs zs (i - length xs)
+      ∙ sym (ap (λ (k : ℕ). drop k (ys ++ zs)) g ∙ drop-append-add ys zs (i - length xs))
 
   named-from : (inside : Bool) (bs : List ℕ) (i : ℕ) → i < length bs → begins inside bs i ≡ true → nameAt (after inside bs) i ≡ spelt names (nameAt bs i)
   named-from inside [] i l e = absurd (not-suc-le-zero l)

@@ -1,5 +1,6 @@
 use mathlib.Core.Path.{sym}
-use Rattle.names.proofs.Bytes.{letter-below, letter-upper, letter-between, letter-lower}
+use Rattle.model.proofs.Bytes.{letter-below}
+use Rattle.names.proofs.Bytes.{letter-upper, letter-between, letter-lower}
 use Rattle.names.proofs.is_letter.Statement.{statement}
 use Rattle.names.proofs.is_letter.Tie as tie
 
