@@ -62,9 +62,6 @@ fn check<S: BuildHasher + Default>(states: u64, entries: &[u16], accepting: &[u1
         }
         listed[q] = true;
     }
-    if accepting.len() > states {
-        return refuse(8, 0);
-    }
 
     // The rows by target, those of one target in their order: a counting sort.
     let mut starts = [0; 257];
@@ -199,7 +196,6 @@ fn compare_faulty(draw: &mut Draw, tables: usize) {
         met.count(compare(&faulty(draw)));
     }
     println!("{tables} small tables: the answers are equal, number and place");
-    // 7 comes before 8, so 8 is never given.
     met.print(&[0, 1, 2, 3, 4, 5, 6, 7, 9, 10, 11]);
 }
 

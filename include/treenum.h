@@ -43,7 +43,8 @@ enum {
     TREENUM_ARGUMENT_NOT_BELOW_TARGET = 5,  /* an argument not below the target; the row */
     TREENUM_REPEATED_ROW = 6,               /* the symbol and arguments of an earlier row; the later row */
     TREENUM_ACCEPTING_ENTRY = 7,            /* an accepting entry that is no state or equals an earlier entry; the entry */
-    TREENUM_ACCEPTING_TOO_LONG = 8,         /* an accepting list longer than the count of states (never seen: 7 comes first) */
+    /* 8 is withdrawn, and its number is not used again: no accepting list could meet it, for one whose entries are
+       distinct states is no longer than the count of states */
     TREENUM_COUNT_ABOVE_LIMIT = 9,          /* a state's count above 4,294,967,295; the state */
     TREENUM_LONGEST_TREE_ABOVE_LIMIT = 10,  /* a state's longest tree above 4,096 entries; the state */
     TREENUM_TOTAL_ABOVE_LIMIT = 11,         /* a total above 4,294,967,295 */
@@ -79,8 +80,8 @@ enum {
 #define TREENUM_TREE_ROOM 4096
 #define TREENUM_TERM_ROOM 53248
 
-/* Checks a table. The result is its total, the count of the trees that it accepts. Refusals: 1 to 11, in this order
- * but for 2 to 6, where the first faulty row decides, and 9 and 10, where the first faulty state does. */
+/* Checks a table. The result is its total, the count of the trees that it accepts. Refusals: 1 to 7 and 9 to 11, in
+ * this order but for 2 to 6, where the first faulty row decides, and 9 and 10, where the first faulty state does. */
 uint32_t treenum_check(uint64_t states, const uint16_t *rows, size_t rows_len, const uint16_t *accepting,
                        size_t accepting_len, uint64_t *value);
 

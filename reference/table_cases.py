@@ -459,8 +459,8 @@ def squares(draw, t):
     return chain
 
 
-# A fault of each kind, put into a sound table. Those within a row are put into row i. 8 cannot occur: a list
-# longer than the count of states has an entry that is no state or a repeated one, and 7 comes first.
+# A fault of each kind, put into a sound table. Those within a row are put into row i. 8 is withdrawn (document 02,
+# request (f)): a list longer than the count of states has an entry that is no state or a repeated one, which is 7.
 
 def fault_1(draw, t, i):
     t.states = draw.pick([257, 258, 1000, 65535, 65536, 65537, 65536 + t.states, 2 ** 32 + t.states, 2 ** 63,

@@ -59,9 +59,8 @@ def check(states, rows, accepting):
         if entry >= states or entry in accepting[:place]:
             return refused(7, place)
 
-    # 'a list longer than the count of states is 8.'
-    if len(accepting) > states:
-        return refused(8)
+    # 'a list longer than the count of states is 8': withdrawn by document 02, request (f), for after 7 there is none
+    # (accepting_tests).
 
     # 'Then states are taken in turn from 0, the first faulty state decides, and its number is the place; for
     # each, a count above 4,294,967,295 is 9, and after that a longest tree above 4,096 entries is 10.'
@@ -752,6 +751,14 @@ def small_table(draw):
     return states, rows, accepting
 
 
+def check_with_8(states, rows, accepting):
+    """The check as it was before 8 was withdrawn: after 7 and before 9, 'a list longer than the count of states is 8'."""
+    answer = check(states, rows, accepting)
+    if answer[0] == 'refused' and answer[1] <= 7:
+        return answer
+    return refused(8) if len(accepting) > states else answer
+
+
 # Terms by the grammar alone, for short texts. A name has at most `longest` bytes.
 
 class Grammar:
@@ -948,6 +955,26 @@ def term_tests(expect):
     expect('trees there and back', wrong, [])
 
 
+def accepting_tests(expect):
+    # All short lists over few states: one of distinct states passes, any other is 7 at the entry with which it is none.
+    tables = [(states, [], accepting) for states in range(4) for accepting in all_lists(range(states + 2), states + 2)]
+    wrong = []
+    for states, rows, accepting in tables:
+        distinct = max(k for k in range(len(accepting) + 1) if len({*accepting[:k]} & {*range(states)}) == k)
+        if check(states, rows, accepting) != (('total', 0) if distinct == len(accepting) else refused(7, distinct)):
+            wrong.append((states, accepting))
+    expect('accepting lists', wrong, [])
+
+    # 8 is withdrawn: with it, these and drawn tables get the same answers.
+    draw = random.Random(3)
+    for _ in range(2000):
+        states, rows, accepting = small_table(draw)
+        rows += draw.choice([[], [], [1]])
+        accepting += [draw.randint(0, states) for _ in range(draw.randint(0, 3))]
+        tables.append((states, rows, accepting))
+    expect('tables with 8', [table for table in tables if check_with_8(*table) != check(*table)], [])
+
+
 def tree_tests(expect):
     # 'Starred facts'
     expect('trees of the paper, in order', [text_of(list_of(tree), [b'a', b'b']) for tree in trees_in_order(whole_rows(PAPER_ROWS), [2, 4])],
@@ -1043,6 +1070,7 @@ def self_test():
             expect(f'trees of {states} {rows} {accepting}', agrees(states, rows, accepting), True)
             small += 1
 
+    accepting_tests(expect)
     tree_tests(expect)
     term_tests(expect)
     spelling_tests(expect)

@@ -108,7 +108,7 @@ pub struct Table {
 }
 
 impl Table {
-    /// Checks a table, and keeps a copy of its lists if it passes. Refuses 1 to 11.
+    /// Checks a table, and keeps a copy of its lists if it passes. Refuses 1 to 7 and 9 to 11.
     ///
     /// A list that is too long is not copied: a table that passes has at most 19,456 row entries
     /// and 256 accepting entries.

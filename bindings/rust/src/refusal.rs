@@ -54,6 +54,9 @@ const EQUAL_NAMES: &str = "names are equal if they differ only in the case of AS
 impl Error for Refusal {}
 
 /// The kinds of refusal, in the order of their numbers, from 1.
+///
+/// 8 was withdrawn, and is not used again: no accepting list could meet it, for one whose entries
+/// are distinct states is no longer than the count of states.
 #[derive(Clone, Copy, Debug, PartialEq, Eq, Hash)]
 #[non_exhaustive]
 #[repr(u32)]
@@ -72,10 +75,8 @@ pub enum Kind {
     RepeatedRow,
     /// 7: an accepting entry is no state or equals an earlier one.
     AcceptingEntry,
-    /// 8: the accepting list is longer than the count of states. 7 comes first, so it is never met.
-    AcceptingTooLong,
     /// 9: a state counts too many trees.
-    CountAboveLimit,
+    CountAboveLimit = 9,
     /// 10: a state's longest tree has more than 4,096 entries.
     LongestTreeAboveLimit,
     /// 11: the total is too large.
@@ -110,7 +111,7 @@ pub enum Kind {
 
 impl Kind {
     /// All kinds, in the order of their numbers.
-    pub const ALL: [Kind; 24] = [
+    pub const ALL: [Kind; 23] = [
         Kind::TooManyStates,
         Kind::CutRow,
         Kind::TooManyRowsOrArguments,
@@ -118,7 +119,6 @@ impl Kind {
         Kind::ArgumentNotBelowTarget,
         Kind::RepeatedRow,
         Kind::AcceptingEntry,
-        Kind::AcceptingTooLong,
         Kind::CountAboveLimit,
         Kind::LongestTreeAboveLimit,
         Kind::TotalAboveLimit,
@@ -150,6 +150,7 @@ impl Kind {
     /// assert_eq!(Kind::from_number(14), Some(Kind::NotAccepted));
     /// assert_eq!(Kind::NotAccepted.number(), 14);
     /// assert_eq!(Kind::from_number(0), None);
+    /// assert_eq!(Kind::from_number(8), None); // withdrawn
     /// assert_eq!(Kind::from_number(25), None);
     /// ```
     pub fn from_number(number: u32) -> Option<Kind> {
@@ -168,7 +169,6 @@ impl Kind {
             Kind::AcceptingEntry => {
                 "the accepting list: the first entry that is no state or equals an earlier entry"
             }
-            Kind::AcceptingTooLong => "a list longer than the count of states",
             Kind::CountAboveLimit => "a count above 4,294,967,295",
             Kind::LongestTreeAboveLimit => "a longest tree above 4,096 entries",
             Kind::TotalAboveLimit => "a total above 4,294,967,295",
@@ -221,7 +221,6 @@ impl Kind {
             Kind::UnnamedSymbol => Some("at the first such entry"),
             Kind::ShortTextList => Some("with the bytes needed"),
             Kind::TooManyStates
-            | Kind::AcceptingTooLong
             | Kind::TotalAboveLimit
             | Kind::TreeTooLong
             | Kind::NumberNotBelowTotal

@@ -73,7 +73,7 @@ fn answer(returned: u32, value: u64) -> Result<u64, Refusal> {
     if returned == 0 {
         return Ok(value);
     }
-    let kind = Kind::from_number(returned).expect("the archive gives the refusals 1 to 24 alone");
+    let kind = Kind::from_number(returned).expect("the archive gives the numbers of kinds alone");
     Err(Refusal { kind, place: value })
 }
 
@@ -85,7 +85,7 @@ fn count(returned: u32, value: u64) -> Result<usize, Refusal> {
 /// Checks a table and gives its total, the count of the trees that it accepts.
 ///
 /// The rows stand one after another: symbol, target state, argument count, argument states.
-/// Refuses 1 to 11. [`Table`](crate::Table) keeps a table that has passed.
+/// Refuses 1 to 7 and 9 to 11. [`Table`](crate::Table) keeps a table that has passed.
 ///
 /// ```
 /// use treenum::{check, Kind, Refusal};

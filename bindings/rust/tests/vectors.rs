@@ -59,15 +59,14 @@ fn answers_as_the_reference() {
     }
     assert_eq!(differ, 0, "of {} answers so many differ", expected.len());
 
-    // Each answer is among them, but for 8: 7 comes first.
+    // Each answer is among them, and 8, which was withdrawn, is not.
     let met = |word: &str| expected.iter().any(|line| line.starts_with(word));
     assert!(met("total ") && met("result ") && met("bad line"));
     for kind in Kind::ALL {
-        assert_eq!(
-            met(&format!("refused {} ", kind.number())),
-            kind != Kind::AcceptingTooLong
-        );
+        let number = kind.number();
+        assert!(met(&format!("refused {number} ")), "{number} is not met");
     }
+    assert!(!met("refused 8 "));
 }
 
 // A case

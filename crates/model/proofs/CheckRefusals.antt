@@ -16,7 +16,7 @@ use Rattle.model.specs.Table.{Row, Table, argCountAt, rowStart, rowNumbe
 use Rattle.model.specs.Count.{count, total, longest}
 use Rattle.model.specs.Tree.{Tree}
 use Rattle.model.specs.Reach.{Reaches, Accepted}
-use Rattle.model.specs.Check.{allBelow, isState, cut, tooMany, outOfRange, notBelow, repeated, rowGround, acceptingGround, stateGround, checkWithin, checkOutcome, countLimit}
+use Rattle.model.specs.Check.{allBelow, isState, cut, tooMany, outOfRange, notBelow, repeated, rowGround, acceptingGround, stateGround, countsOutcome, checkWithin, checkOutcome, countLimit}
 use Rattle.model.specs.Limits.{ReachedBy, WithinLimits, BeyondLimits, nine, ten}
 use Rattle.model.specs.CheckRefusals.{RowBegins, RowCut, RowTooMany, SomeArgument, RowOutOfRange, RowNotBelow, RowRepeated, RowRefused, row2, row3, row4, row5, row6, FaultlessRow, FaultlessRows, EntryFaulty, FaultlessEntries, CheckRefused, check1, check2to6, check7, check9to10, check11, CheckRefuses, CheckGives}
 use Rattle.model.proofs.Choice.{if-no, if-yes, if-zero, refused-number, refused-place, or-true, or-left, or-right, not-both, is-false, no-fault, fault-refused, any-true, any-some, if-refused, result-only, Decided, clear, faulty, decided, ground-alone}
@@ -25,7 +25,7 @@ use Rattle.model.proofs.Exactly.{exactly-once}
 use Rattle.model.proofs.Longest.{longest-none, longest-tree}
 use Rattle.model.proofs.Passing.{state-ground}
 use Rattle.model.proofs.Limits.{state-counted, tree-most, within-limits, beyond-limits, total-counted}
-use Rattle.model.proofs.Checked.{allBelow-true, passes-just, sound-good, entries-few}
+use Rattle.model.proofs.Checked.{allBelow-true, passes-just, sound-good}
 use Rattle.model.proofs.Rows.{rowCount, rowStart-grows, rowIs-true, rowIs-yes}
 
 -- ---- what a test says
@@ -314,7 +314,7 @@ module _ (states : ℕ) (rows accepting : List ℕ) where
   afterStates = if ltb countLimit (total T) then refused 11 0 else result (total T)
 
   abbrev afterEntries : Outcome
-  afterEntries = if ltb states (howManyEntries accepting) then refused 8 0 else firstFaulty states (stateGround countLimit T) afterStates
+  afterEntries = countsOutcome countLimit T
 
   abbrev afterRows : Outcome
   afterRows = firstFaulty (howManyEntries accepting) (acceptingGround states accepting) afterEntries
@@ -370,13 +370,13 @@ module _ (states : ℕ) (rows accepting : List ℕ) where
             })
         go (inr x) = let y = x .1 in let z : _≡_ {A = ℕ} 0 1 = cc in absurd (omega arith)
 
-    state-refused : states ≤ 256 → ClearRows → ClearEntries → firstFaulty states (stateGround countLimit T) afterStates ≡ refused number place → Refused
+    state-refused : states ≤ 256 → ClearRows → ClearEntries → afterEntries ≡ refused number place → Refused
     state-refused s c d e = go (decided states (stateGround countLimit T) afterStates)
       where
         good : Good T
         good = sound-good states rows accepting c d
 
-        go : Decided states (stateGround countLimit T) afterStates (firstFaulty states (stateGround countLimit T) afterStates) → Refused
+        go : Decided states (stateGround countLimit T) afterStates afterEntries → Refused
         go (clear h f) = total-refused s c d h (sym f ∙ e)
         go (faulty q l h p f) =
             moved (λ n i. CheckRefused states rows accepting n i) (stateGround countLimit T q) q (sym f ∙ e)
@@ -386,13 +386,8 @@ module _ (states : ℕ) (rows accepting : List ℕ) where
     entry-refused : states ≤ 256 → ClearRows → afterRows ≡ refused number place → Refused
     entry-refused s c e = go (decided (howManyEntries accepting) (acceptingGround states accepting) afterEntries)
       where
-        eight : ClearEntries → ((ltb states (howManyEntries accepting) ≡ true) × (number ≡ 8) × (place ≡ 0))
-            ⊎ ((ltb states (howManyEntries accepting) ≡ false) × (firstFaulty states (stateGround countLimit T) afterStates ≡ refused number place)) → Refused
-        eight d (inl x) = absurd (omega (arith, ltb-true states (howManyEntries accepting) (x .0), entries-few states accepting d))
-        eight d (inr x) = state-refused s c d (x .1)
-
         go : Decided (howManyEntries accepting) (acceptingGround states accepting) afterEntries afterRows → Refused
-        go (clear h f) = eight h (if-refused (ltb states (howManyEntries accepting)) 8 0 number place (firstFaulty states (stateGround countLimit T) afterStates) (sym f ∙ e))
+        go (clear h f) = state-refused s c h (sym f ∙ e)
         go (faulty i l h p f) =
             let a = entry-faulty states accepting i p in
             moved (λ n i. CheckRefused states rows accepting n i) (acceptingGround states accepting i) i (sym f ∙ e)
@@ -421,11 +416,8 @@ module _ (states : ℕ) (rows accepting : List ℕ) where
   rows-pass : states ≤ 256 → ClearRows → checkOutcome states rows accepting ≡ afterRows
   rows-pass s c = size-passes s ∙ no-fault (howManyRows rows) (rowGround states rows) afterRows c
 
-  entries-pass : states ≤ 256 → ClearRows → ClearEntries → checkOutcome states rows accepting ≡ firstFaulty states (stateGround countLimit T) afterStates
-  entries-pass s c d =
-      rows-pass s c
-      ∙ no-fault (howManyEntries accepting) (acceptingGround states accepting) afterEntries d
-      ∙ if-no (ltb states (howManyEntries accepting)) (refused 8 0) (firstFaulty states (stateGround countLimit T) afterStates) (le-ltb states (howManyEntries accepting) (entries-few states accepting d))
+  entries-pass : states ≤ 256 → ClearRows → ClearEntries → checkOutcome states rows accepting ≡ afterEntries
+  entries-pass s c d = rows-pass s c ∙ no-fault (howManyEntries accepting) (acceptingGround states accepting) afterEntries d
 
   at-fault : (n i k : ℕ) (g : ℕ → ℕ) (o : Outcome) → i < n → ((j : ℕ) → j < i → g j ≡ 0) → (g i ≡ k) × (0 < k) → firstFaulty n g o ≡ refused k i
   at-fault n i k g o l h e = sym (fault-refused n i k g o l h (e .0) (e .1))
@@ -453,7 +445,7 @@ module _ (states : ℕ) (rows accepting : List ℕ) where
       ∙ if-yes (ltb countLimit (total T)) (refused 11 0) (result (total T))
       (lt-ltb countLimit (total T) (omega (arith, exactly-once (Accepted T) (f .many) (total T) (f .accepted) (total-counted T good), f .beyond))))
 
--- each refusal from 1 to 11 has its ground, and each ground its refusal
+-- each refusal has its ground, and each ground its refusal
 pub check-refuses : CheckRefuses
 check-refuses states rows accepting number place = (has-ground states rows accepting number place, ground-refuses states rows accepting number place)
 
@@ -477,25 +469,3 @@ check-gives states rows accepting n = (there, back)
 -- at most one ground is the first: its number and its place are the only ones
 pub ground-once : (states : ℕ) (rows accepting : List ℕ) (m p n q : ℕ) → CheckRefused states rows accepting m p → CheckRefused states rows accepting n q → (m ≡ n) × (p ≡ q)
 ground-once states rows accepting = ground-alone (CheckRefused states rows accepting) (checkOutcome states rows accepting) (ground-refuses states rows accepting)
-
--- "a list longer than the count of states is 8": after 7 there is none
-pub never-eight : (states : ℕ) (rows accepting : List ℕ) (place : ℕ) → checkOutcome states rows accepting ≡ refused 8 place → ⊥
-never-eight states rows accepting place e = go (has-ground states rows accepting 8 place e)
-  where
-    by-row : {i : ℕ} → RowRefused states rows i 8 → ⊥
-    by-row (row2 n x) = omega arith
-    by-row (row3 n a x) = omega arith
-    by-row (row4 n a b x) = omega arith
-    by-row (row5 n a b c x) = omega arith
-    by-row (row6 n a b c d x) = omega arith
-
-    by-state : {q : ℕ} → BeyondLimits (tableOf states rows accepting) q 8 → ⊥
-    by-state (nine n many r a) = omega arith
-    by-state (ten n many r a t h b) = omega arith
-
-    go : CheckRefused states rows accepting 8 place → ⊥
-    go (check1 n p a) = omega arith
-    go (check2to6 s f) = by-row (f .here)
-    go (check7 n s c f) = omega arith
-    go (check9to10 s c d l f) = by-state (f .here)
-    go (check11 n s c d f) = omega arith

@@ -15,8 +15,9 @@ use Rattle.model.specs.Choice.{anyBelow}
 use Rattle.model.specs.Table.{Row, Table, noRow, pack, argCountAt, rowStart, rowNumbered, howManyRows, rowsOf, rowIs, howManyEntries, stateAt, acceptingStates, tableOf, Whole}
 use Rattle.model.specs.Count.{count, total, longest}
 use Rattle.model.specs.Check.{allBelow, isState, cut, tooMany, outOfRange, notBelow, repeated, rowGround, acceptingGround, stateGround, checkWithin, countLimit, checkOutcome, Passes}
+use Rattle.model.specs.Card.{EntriesFew}
 use Rattle.model.proofs.Choice.{if-no, if-result, if-zero, or-false, and-true, not-both, no-fault, no-fault-back, any-false}
-use Rattle.model.proofs.Good.{AllBelow, below-none, below-cons, Once, once-few, Good, Within}
+use Rattle.model.proofs.Good.{AllBelow, below-none, below-cons, pigeon, Good, Within}
 use Rattle.model.proofs.Rows.{args-length, rowsOf-length, rowsOf-at, pack-rowsOf, rowIs-yes}
 
 -- ---- no ground
@@ -26,7 +27,6 @@ pub record NoGround (limit states : ℕ) (rows accepting : List ℕ) : Type 0 wh
   pub few-states : states ≤ 256
   pub good-rows : (i : ℕ) → i < howManyRows rows → rowGround states rows i ≡ 0
   pub good-entries : (i : ℕ) → i < howManyEntries accepting → acceptingGround states accepting i ≡ 0
-  pub few-entries : howManyEntries accepting ≤ states
   pub good-states : (q : ℕ) → q < states → stateGround limit (tableOf states rows accepting) q ≡ 0
   pub small-total : total (tableOf states rows accepting) ≤ limit
 
@@ -37,7 +37,6 @@ module _ (limit states : ℕ) (rows accepting : List ℕ) where
       if-no (ltb 256 states) (refused 1 0) _ (le-ltb 256 states (g .few-states))
       ∙ no-fault (howManyRows rows) (rowGround states rows) _ (g .good-rows)
       ∙ no-fault (howManyEntries accepting) (acceptingGround states accepting) _ (g .good-entries)
-      ∙ if-no (ltb states (howManyEntries accepting)) (refused 8 0) _ (le-ltb states (howManyEntries accepting) (g .few-entries))
       ∙ no-fault states (stateGround limit (tableOf states rows accepting)) _ (g .good-states)
       ∙ if-no (ltb limit (total (tableOf states rows accepting))) (refused 11 0) _ (le-ltb limit (total (tableOf states rows accepting)) (g .small-total))
 
@@ -48,17 +47,15 @@ module _ (limit states : ℕ) (rows accepting : List ℕ) where
       let a = if-result (ltb 256 states) 1 0 n _ e in
       let b = no-fault-back (howManyRows rows) n (rowGround states rows) _ (a .1) in
       let c = no-fault-back (howManyEntries accepting) n (acceptingGround states accepting) _ (b .1) in
-      let d = if-result (ltb states (howManyEntries accepting)) 8 0 n _ (c .1) in
-      let f = no-fault-back states n (stateGround limit T) _ (d .1) in
-      let h = if-result (ltb limit (total T)) 11 0 n _ (f .1) in
-      let z : result (total T) ≡ result n = h .1 in (
+      let d = no-fault-back states n (stateGround limit T) _ (c .1) in
+      let f = if-result (ltb limit (total T)) 11 0 n _ (d .1) in
+      let z : result (total T) ≡ result n = f .1 in (
         record {
           few-states = ltb-false 256 states (a .0);
           good-rows = b .0;
           good-entries = c .0;
-          few-entries = ltb-false states (howManyEntries accepting) (d .0);
-          good-states = f .0;
-          small-total = ltb-false limit (total T) (h .0);
+          good-states = d .0;
+          small-total = ltb-false limit (total T) (f .0);
         },
         cc,
       )
@@ -196,22 +193,16 @@ states-length accepting = refl
 pub states-at : (accepting : List ℕ) (i : ℕ) → getD (acceptingStates accepting) i 0 ≡ stateAt accepting i
 states-at accepting i = refl
 
--- entries without a ground: each is a state, and no two are the same
-module _ (states : ℕ) (accepting : List ℕ) (good : (i : ℕ) → i < howManyEntries accepting → acceptingGround states accepting i ≡ 0) where
-  pub entries-listed : AllBelow states (acceptingStates accepting)
-  entries-listed i l = rw (states-at accepting i) (entry-good states accepting i (good i (rw (states-length accepting) at l)) .state)
+-- the first n entries, where each is a state and none equals an earlier one: no two are the same, and there are no more of them than states
+module _ (states : ℕ) (accepting : List ℕ) (n : ℕ) (good : (i : ℕ) → i < n → GoodEntry states accepting i) where
+  entries-apart : (i j : ℕ) → i < n → j < n → stateAt accepting i ≡ stateAt accepting j → i ≡ j
+  entries-apart i j li lj e = apart n (λ i j. stateAt accepting i ≡ stateAt accepting j) (λ i l. good i l .fresh) i j li lj e (sym e)
 
-  pub entries-once : Once (acceptingStates accepting)
-  entries-once i j li lj e =
-      apart (howManyEntries accepting) (λ i j. stateAt accepting i ≡ stateAt accepting j) (λ i l. entry-good states accepting i (good i l) .fresh)
-      i j (rw (states-length accepting) at li) (rw (states-length accepting) at lj) d (sym d)
-    where
-      d : stateAt accepting i ≡ stateAt accepting j
-      d = sym (states-at accepting i) ∙ e ∙ states-at accepting j
+  pub first-few : n ≤ states
+  first-few = pigeon n states (stateAt accepting) (λ i l. good i l .state) entries-apart
 
-  -- then there are no more of them than states: where 8 is asked for, it does not hold
-  pub entries-few : howManyEntries accepting ≤ states
-  entries-few = omega (arith, states-length accepting, once-few states (acceptingStates accepting) entries-listed entries-once)
+pub entries-few : EntriesFew
+entries-few states accepting state fresh = first-few states accepting (howManyEntries accepting) (λ i l. record { state = state i l; fresh = fresh i l })
 
 -- rows and accepting entries for which no ground holds, whatever the states count
 module _ (states : ℕ) (rows accepting : List ℕ) (good-rows : (i : ℕ) → i < howManyRows rows → rowGround states rows i ≡ 0)
@@ -226,14 +217,19 @@ module _ (states : ℕ) (rows accepting : List ℕ) (good-rows : (i : ℕ) → i
           distinct = λ i j li lj s x. two i j (within i li) (within j lj)
               (rw (rowsOf-at rows i noRow (within i li), rowsOf-at rows j noRow (within j lj)) at s)
               (rw (rowsOf-at rows i noRow (within i li), rowsOf-at rows j noRow (within j lj)) at x);
-          listed = entries-listed states accepting good-entries;
-          once = entries-once states accepting good-entries;
+          listed = λ i l. rw (states-at accepting i) (entry i (rw (states-length accepting) at l) .state);
+          once = λ i j li lj e.
+              entries-apart states accepting (howManyEntries accepting) entry i j (rw (states-length accepting) at li) (rw (states-length accepting) at lj)
+              (sym (states-at accepting i) ∙ e ∙ states-at accepting j);
         };
         ordered = λ i l. rw (rowsOf-at rows i noRow (within i l)) (row i (within i l) .ordered);
       }
     where
       row : (i : ℕ) → i < howManyRows rows → GoodRow states rows i
       row i l = row-good states rows i (good-rows i l)
+
+      entry : (i : ℕ) → i < howManyEntries accepting → GoodEntry states accepting i
+      entry i l = entry-good states accepting i (good-entries i l)
 
       within : (i : ℕ) → i < length (rowsOf rows) → i < howManyRows rows
       within i l = rw (rowsOf-length rows) at l
@@ -261,7 +257,6 @@ module _ (limit states : ℕ) (rows accepting : List ℕ) (g : NoGround limit st
         few-states = g .few-states;
         few-rows = few (decLe (howManyRows rows) 1024);
         few-args = λ i l. args i (rw (rowsOf-length rows) at l);
-        few-listed = rw (states-length accepting) (g .few-entries);
         small-counts = λ q l. state-good limit (tableOf states rows accepting) q (g .good-states q l) .0;
         small-trees = λ q l. state-good limit (tableOf states rows accepting) q (g .good-states q l) .1;
         small-total = g .small-total;

@@ -76,10 +76,6 @@ pigeon (suc m) (suc n) f b d = suc-le-suc (pigeon m n moved low single)
         go false true y z e = let k : i ≡ m = d i m (omega arith) (omega arith) e in absurd (omega arith)
         go false false y z e = d i j (omega arith) (omega arith) e
 
--- distinct states are no more than there are states
-pub once-few : (n : ℕ) (xs : List ℕ) → AllBelow n xs → Once xs → length xs ≤ n
-once-few n xs b d = pigeon (length xs) n (λ i. getD xs i 0) b d
-
 -- a sound table, whatever its size and the order of its states: targets and arguments are states, no two rows have the same symbol and the
 -- same arguments, accepting entries are distinct states
 pub record Sound (T : Table) : Type 0 where
@@ -100,7 +96,6 @@ pub record Within (limit : ℕ) (T : Table) : Type 0 where
   pub few-states : T .states ≤ 256
   pub few-rows : length (T .rows) ≤ 1024
   pub few-args : (i : ℕ) → i < length (T .rows) → length (getD (T .rows) i noRow .args) ≤ 16
-  pub few-listed : length (T .accepting) ≤ T .states
   pub small-counts : (q : ℕ) → q < T .states → count T q ≤ limit
   pub small-trees : (q : ℕ) → q < T .states → longest T q ≤ 4096
   pub small-total : total T ≤ limit

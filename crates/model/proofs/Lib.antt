@@ -1,6 +1,6 @@
 -- The laws of document 01's terms.
-pub mod Numbers
 pub mod Choice
+pub mod Numbers
 pub mod Lists
 pub mod Writing
 pub mod Good
@@ -9,7 +9,6 @@ pub mod Exactly
 pub mod Rows
 pub mod Reaching
 pub mod Checked
-pub mod Positive
 pub mod Longest
 pub mod Passing
 pub mod Paper
@@ -36,3 +35,5 @@ pub mod TermExamples
 pub mod Starred
 pub mod Edges
 pub mod TableExamples
+pub mod Made
+pub mod Card

@@ -140,7 +140,6 @@ module _ (limit states : ℕ) (rows accepting : List ℕ) where
         few-states = f .within .few-states;
         good-rows = λ i l. row-ground states rows i (fine-row f i l);
         good-entries = λ i l. entry-ground states accepting i (fine-entry f i l);
-        few-entries = rw (states-length accepting) at (f .within .few-listed);
         good-states = λ q l. state-ground limit (tableOf states rows accepting) q (f .within .small-counts q l) (f .within .small-trees q l);
         small-total = f .within .small-total;
       }

@@ -1,5 +1,5 @@
 -- Tables checked, trees numbered and written, by computation against "The operations and what they turn away": each refusal from 1 to 16
--- (but 8, which no table gets) with its place, and which of two comes first.
+-- (but the withdrawn 8) with its place, and which of two comes first.
 use Prim.Native.Nat.{ℕ, zero, suc, _+_, _≤_, _<_}
 use mathlib.Core.Path.{_≡_, refl, ap, _∙_}
 use mathlib.Core.Bool.{true, false, _&&_, _||_, and-false}

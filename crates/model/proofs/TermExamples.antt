@@ -115,7 +115,7 @@ due (reads names text tree answer after) = (answer, after)
 due (writes names tree text answer after) = (answer, after)
 
 -- the names `a` and `b`, each followed by byte 10
-ab : List ℕ
+pub ab : List ℕ
 ab = ascii "a\nb\n"
 
 -- two entries or bytes that stay
@@ -274,11 +274,11 @@ entry-limit = (refl, refl, refl, refl, refl, refl)
 
 -- ---- 21 at its real size, by the laws: a name with n + 1 leaves in its brackets, `a(a,..,a)`
 
-unfoldable leaves : ℕ → Terms
+unfoldable pub leaves : ℕ → Terms
 leaves zero = none
 leaves (suc n) = term (ascii "a") none (leaves n)
 
-abbrev wide : ℕ → Term
+abbrev pub wide : ℕ → Term
 wide n = record { name = ascii "a"; inner = leaves (suc n) }
 
 -- its text, and how long that is
@@ -359,7 +359,7 @@ tree-4096 =
     } in
     read-exactly ab (textOf (wide 2046)) 4096 4096 .1 (r, sym e, omega arith)
 
-tree-4098 : readTermOutcome ab (textOf (wide 2047)) 4096 ≡ refused 21 0
+pub tree-4098 : readTermOutcome ab (textOf (wide 2047)) 4096 ≡ refused 21 0
 unfolding wide-term
 tree-4098 =
     read-refuses ab (textOf (wide 2047)) 4096 21 0 .1

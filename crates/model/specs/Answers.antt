@@ -4,7 +4,7 @@ use mathlib.Core.Path.{_≡_}
 use mathlib.Core.List.{List, _++_}
 use lib.ListN.{length, take, drop}
 use Rattle.model.specs.declared.Kind.{Kind}
-use Rattle.model.specs.declared.Kind.the-variants.{TooManyStates, CutRow, TooManyRowsOrArguments, NotInRange, ArgumentNotBelowTarget, RepeatedRow, AcceptingEntry, AcceptingTooLong, CountAboveLimit, LongestTreeAboveLimit, TotalAboveLimit, TreeTooLong, NotATree, NotAccepted, NumberNotBelowTotal, ShortTreeList, FaultyNames, TextTooLong, NotATerm, UnlistedName, TermTreeTooLong, ShortTermTree, UnnamedSymbol, ShortTextList}
+use Rattle.model.specs.declared.Kind.the-variants.{TooManyStates, CutRow, TooManyRowsOrArguments, NotInRange, ArgumentNotBelowTarget, RepeatedRow, AcceptingEntry, CountAboveLimit, LongestTreeAboveLimit, TotalAboveLimit, TreeTooLong, NotATree, NotAccepted, NumberNotBelowTotal, ShortTreeList, FaultyNames, TextTooLong, NotATerm, UnlistedName, TermTreeTooLong, ShortTermTree, UnnamedSymbol, ShortTextList}
 use Rattle.model.specs.declared.Refusal.{Refusal}
 use Rattle.model.specs.declared.Answer.{Answer}
 use Rattle.model.specs.declared.Answer.the-variants.{Result, Refused}
@@ -14,7 +14,7 @@ pub data Outcome : Type 0 where
   result : ℕ → Outcome
   refused : (number place : ℕ) → Outcome
 
--- the refusal numbers that "The operations and what they turn away" gives
+-- the refusal numbers that "The operations and what they turn away" gives, but for 8
 abbrev pub kindNumber : Kind → ℕ
 -- "more than 256 states is 1"
 kindNumber TooManyStates = 1
@@ -30,8 +30,7 @@ kindNumber ArgumentNotBelowTarget = 5
 kindNumber RepeatedRow = 6
 -- "the first entry that is no state or equals an earlier entry is 7"
 kindNumber AcceptingEntry = 7
--- "a list longer than the count of states is 8"
-kindNumber AcceptingTooLong = 8
+-- "a list longer than the count of states is 8": withdrawn (specs/Card)
 -- "a count above 4,294,967,295 is 9"
 kindNumber CountAboveLimit = 9
 -- "a longest tree above 4,096 entries is 10"

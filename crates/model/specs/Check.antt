@@ -1,4 +1,4 @@
--- "Checking a table gives the total": the ordered choice of refusals 1 to 11. Assumes nothing: these are definitions.
+-- "Checking a table gives the total": the ordered choice of refusals 1 to 7 and 9 to 11. Assumes nothing: these are definitions.
 use Prim.Native.Nat.{ℕ, _-_}
 use mathlib.Core.Path.{_≡_}
 use mathlib.Core.Bool.{Bool, true, _&&_, _||_, not}
@@ -59,22 +59,27 @@ stateGround limit T q =
     if ltb limit (count T q) then 9 else
     if ltb 4096 (longest T q) then 10 else 0
 
--- the check with a limit for counts and the total
-unfoldable pub checkWithin : (limit states : ℕ) (rows accepting : List ℕ) → Outcome
-checkWithin limit states rows accepting =
-    let T = tableOf states rows accepting in
+-- the count of states and the two lists, and what follows where they are without fault
+abbrev pub listsThen : (states : ℕ) (rows accepting : List ℕ) → Outcome → Outcome
+listsThen states rows accepting otherwise =
     -- "First, more than 256 states is 1."
     if ltb 256 states then refused 1 0 else
     -- "Then rows are taken in turn, and the first faulty row decides; its row number is the place."
     firstFaulty (howManyRows rows) (rowGround states rows)
-    -- "Then the accepting list"
-    (firstFaulty (howManyEntries accepting) (acceptingGround states accepting)
-    -- "a list longer than the count of states is 8" (where no entry is 7, none is longer: the law `entries-few`)
-    (if ltb states (howManyEntries accepting) then refused 8 0 else
+    -- "Then the accepting list" ("a list longer than the count of states is 8": withdrawn, specs/Card)
+    (firstFaulty (howManyEntries accepting) (acceptingGround states accepting) otherwise)
+
+-- the counts of a table, with a limit for them and for the total
+abbrev pub countsOutcome : (limit : ℕ) → Table → Outcome
+countsOutcome limit T =
     -- "Then states are taken in turn from 0, the first faulty state decides, and its number is the place"
-    firstFaulty states (stateGround limit T)
+    firstFaulty (T .states) (stateGround limit T)
     -- "Last, a total above 4,294,967,295 is 11."
-    (if ltb limit (total T) then refused 11 0 else result (total T))))
+    (if ltb limit (total T) then refused 11 0 else result (total T))
+
+-- the check with a limit for counts and the total
+unfoldable pub checkWithin : (limit states : ℕ) (rows accepting : List ℕ) → Outcome
+checkWithin limit states rows accepting = listsThen states rows accepting (countsOutcome limit (tableOf states rows accepting))
 
 abbrev pub countLimit : ℕ
 countLimit = 4294967295

@@ -94,7 +94,7 @@ pub data CheckRefused (states : ℕ) (rows accepting : List ℕ) (number place :
   -- "Then the accepting list"
   check7 : number ≡ 7 → states ≤ 256 → FaultlessRows states rows → FirstFaultyEntry states accepting place
       → CheckRefused states rows accepting number place
-  -- "a list longer than the count of states is 8": after 7 there is none, and so no table is refused by 8 (the law `never-eight`)
+  -- "a list longer than the count of states is 8": withdrawn (specs/Card)
   -- 9 and 10: "Then states are taken in turn from 0, the first faulty state decides, and its number is the place"
   check9to10 : states ≤ 256 → FaultlessRows states rows → FaultlessEntries states accepting → place < states → FirstBeyond (tableOf states rows accepting) place number
       → CheckRefused states rows accepting number place

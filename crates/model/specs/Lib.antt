@@ -20,6 +20,7 @@ pub mod Inverse
 pub mod TermRefusals
 pub mod Number
 pub mod Write
+pub mod Card
 pub mod Demand3
 pub mod TreeRefusals
 pub mod Text

@@ -4,7 +4,7 @@ ghost use Rattle.model.specs.Answers.{refused, kindNumber, refusedBy, ou
 
 // The refusals of document 01, in the order of their numbers.
 pub enum Kind {
-    // 1 to 11: checking a table
+    // 1 to 7 and 9 to 11: checking a table
     TooManyStates,
     CutRow,
     TooManyRowsOrArguments,
@@ -12,7 +12,7 @@ pub enum Kind {
     ArgumentNotBelowTarget,
     RepeatedRow,
     AcceptingEntry,
-    AcceptingTooLong,
+    // 8 is withdrawn, and its number is not used again
     CountAboveLimit,
     LongestTreeAboveLimit,
     TotalAboveLimit,
@@ -74,7 +74,6 @@ pub fn kind_number(k: Kind) -> u32
         Kind::ArgumentNotBelowTarget => 5,
         Kind::RepeatedRow => 6,
         Kind::AcceptingEntry => 7,
-        Kind::AcceptingTooLong => 8,
         Kind::CountAboveLimit => 9,
         Kind::LongestTreeAboveLimit => 10,
         Kind::TotalAboveLimit => 11,

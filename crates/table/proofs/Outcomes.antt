@@ -4,15 +4,14 @@ use mathlib.Core.Path.{_≡_, sym, ap, _∙_}
 use mathlib.Core.List.{List, map}
 use native.Mathlib.Omega.{arith}
 use lib.ListN.{length, getD}
-use lib.Dec.{ltb}
 use borrow.Author.Tests.{lt-ltb, le-ltb}
 use Rattle.model.specs.declared.Kind.{Kind}
 use Rattle.model.specs.declared.Refusal.{Refusal}
 use Rattle.model.specs.Answers.{Outcome, result, refused, kindNumber, refusedBy}
-use Rattle.model.specs.Choice.{if_then_else_, firstFaulty}
+use Rattle.model.specs.Choice.{firstFaulty}
 use Rattle.model.specs.Table.{rowStart, howManyRows, tableOf}
 use Rattle.model.specs.Count.{sum, count, total}
-use Rattle.model.specs.Check.{rowGround, acceptingGround, stateGround, checkWithin, checkOutcome, countLimit}
+use Rattle.model.specs.Check.{rowGround, acceptingGround, stateGround, countsOutcome, checkWithin, checkOutcome, countLimit}
 use Rattle.model.proofs.Choice.{no-fault, fault-refused}
 use Rattle.model.proofs.Counting.{map-agree}
 use Rattle.model.proofs.Rows.{args-length}
@@ -58,14 +57,10 @@ not-sound f t m h = let z : _≡_ {A = ℕ} 0 1 = cc in absurd (omega arith)
 
 -- the check from the states on, and from the accepting list on
 unfoldable fromStates : (states : ℕ) (rows accepting : List ℕ) → Outcome
-fromStates states rows accepting =
-    firstFaulty states (stateGround countLimit (tableOf states rows accepting))
-    (if ltb countLimit (total (tableOf states rows accepting)) then refused 11 0 else result (total (tableOf states rows accepting)))
+fromStates states rows accepting = countsOutcome countLimit (tableOf states rows accepting)
 
 unfoldable fromEntries : (states : ℕ) (rows accepting : List ℕ) → Outcome
-fromEntries states rows accepting =
-    firstFaulty (length accepting) (acceptingGround states accepting)
-    (if ltb states (length accepting) then refused 8 0 else fromStates states rows accepting)
+fromEntries states rows accepting = firstFaulty (length accepting) (acceptingGround states accepting) (fromStates states rows accepting)
 
 -- the ordered choice, one ground after the other: 1
 module _ (states : ℕ) (rows accepting : List ℕ) where
@@ -94,20 +89,12 @@ module _ (states : ℕ) (rows accepting : List ℕ) where
       entry-refused i f = entry-is i f ∙ from-entries
 
       module _ (entries-fine : AllFine (length accepting) (acceptingGround states accepting)) where
-        -- 8
-        list-is : states < length accepting → refused 8 0 ≡ fromEntries states rows accepting
+        states-is : fromStates states rows accepting ≡ fromEntries states rows accepting
         unfolding fromEntries
-        list-is gt = rw (no-fault (length accepting) (acceptingGround states accepting) _ entries-fine, lt-ltb states (length accepting) gt)
+        states-is = sym (no-fault (length accepting) (acceptingGround states accepting) _ entries-fine)
 
-        pub list-refused : states < length accepting → refused 8 0 ≡ checkOutcome states rows accepting
-        list-refused gt = list-is gt ∙ from-entries
-
-        states-is : length accepting ≤ states → fromStates states rows accepting ≡ fromEntries states rows accepting
-        unfolding fromEntries
-        states-is le = rw (no-fault (length accepting) (acceptingGround states accepting) _ entries-fine, le-ltb states (length accepting) le)
-
-        from-states : length accepting ≤ states → fromStates states rows accepting ≡ checkOutcome states rows accepting
-        from-states le = states-is le ∙ from-entries
+        from-states : fromStates states rows accepting ≡ checkOutcome states rows accepting
+        from-states = states-is ∙ from-entries
 
 -- a faulty state: 9 or 10
 fault-is : (states : ℕ) (rows accepting : List ℕ) (q : ℕ) (k : Kind) → FirstAt states (stateGround countLimit (rowTable states rows)) q (kindNumber k)
@@ -137,10 +124,10 @@ module _ (states : ℕ) (rows accepting cs ls sums : List ℕ) (fine : AllFine (
       let y : t ≡ total (tableOf states rows accepting) = omega (arith, total-kept) in
       rw (states-clear _, le-ltb countLimit (total (tableOf states rows accepting)) (omega (arith, total-kept)), y)
 
--- the answer where none of the grounds 1 to 8 holds
+-- the answer where none of the grounds 1 to 7 holds
 module _ {states : ℕ} {rows accepting : List ℕ} {n : ℕ} {offsets first₀ after₀ cs₀ ls₀ sums₀ : List ℕ} (s : StatesReady states rows accepting n offsets first₀ after₀ cs₀ ls₀ sums₀) where
   left : fromStates states rows accepting ≡ checkOutcome states rows accepting
-  left = from-states states rows accepting (s .few) (rw (s .all) at (s .rows-fine)) (s .entries-fine) (s .listed-few)
+  left = from-states states rows accepting (s .few) (rw (s .all) at (s .rows-fine)) (s .entries-fine)
 
   states-refused : {first after cs ls sums : List ℕ} (f : Refusal) → refusedBy f ≡ fromStates states rows accepting → StatesAnswer states rows accepting n first after cs ls sums (Refuses f)
   states-refused f h = record {

@@ -35,14 +35,13 @@ abbrev pub told : Checked → Outcome
 told (Sound t n) = result t
 told (Refuses r) = refusedBy r
 
--- what checking the states starts from: none of the grounds 1 to 8 holds, and the arrays are not yet written
+-- what checking the states starts from: none of the grounds 1 to 7 holds, and the arrays are not yet written
 pub record StatesReady (states : ℕ) (rows accepting : List ℕ) (n : ℕ) (offsets first after counts longest sums : List ℕ) : Type 0 where
   pub all : n ≡ howManyRows rows
   pub laid : Laid rows offsets n
   pub few : states ≤ 256
   pub rows-fine : AllFine n (rowGround states rows)
   pub entries-fine : AllFine (length accepting) (acceptingGround states accepting)
-  pub listed-few : length accepting ≤ states
   pub unchained : Unchained first after
   pub counts-long : length counts ≡ 256
   pub longest-long : length longest ≡ 256

@@ -126,23 +126,18 @@ pub fn check_into(
         Walked::Stopped(r, kind) => Checked::Refuses(refuse(kind, r as u64)),
         Walked::Passed(n) => match faulty_entry(states, accepting) {
             Found::At(i) => Checked::Refuses(refuse(Kind::AcceptingEntry, i as u64)),
-            Found::Nothing => {
-                if states < accepting.len() as u64 {
-                    return Checked::Refuses(refuse(Kind::AcceptingTooLong, 0));
-                }
-                check_states(
-                    states as usize,
-                    rows,
-                    accepting,
-                    n,
-                    &*offsets,
-                    first,
-                    after,
-                    counts,
-                    longest,
-                    sums,
-                )
-            }
+            Found::Nothing => check_states(
+                states as usize,
+                rows,
+                accepting,
+                n,
+                &*offsets,
+                first,
+                after,
+                counts,
+                longest,
+                sums,
+            ),
         },
     }
 }
