@@ -196,6 +196,7 @@ fn compare_faulty(draw: &mut Draw, tables: usize) {
         met.count(compare(&faulty(draw)));
     }
     println!("{tables} small tables: the answers are equal, number and place");
+    // 8 is withdrawn.
     met.print(&[0, 1, 2, 3, 4, 5, 6, 7, 9, 10, 11]);
 }
 

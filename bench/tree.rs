@@ -507,6 +507,7 @@ fn compare_faulty(draw: &mut Draw, inputs: usize) {
         writing.count(compare_write(&pair, room(draw, entries)));
     }
     println!("{inputs} small inputs: the answers are equal, number and place, and so are the lists");
+    // 8 is withdrawn.
     let check = [0, 1, 2, 3, 4, 5, 6, 7, 9, 10, 11];
     numbering.print(&[&check[..], &[12, 13, 14]].concat());
     writing.print(&[&check[..], &[15, 16]].concat());

@@ -43,8 +43,8 @@ enum {
     TREENUM_ARGUMENT_NOT_BELOW_TARGET = 5,  /* an argument not below the target; the row */
     TREENUM_REPEATED_ROW = 6,               /* the symbol and arguments of an earlier row; the later row */
     TREENUM_ACCEPTING_ENTRY = 7,            /* an accepting entry that is no state or equals an earlier entry; the entry */
-    /* 8 is withdrawn, and its number is not used again: no accepting list could meet it, for one whose entries are
-       distinct states is no longer than the count of states */
+    /* 8, which was TREENUM_ACCEPTING_TOO_LONG, is withdrawn and not used again: it was never returned, so its case can
+       go. A list longer than the count of states has an entry that is no state or equals an earlier one: 7 */
     TREENUM_COUNT_ABOVE_LIMIT = 9,          /* a state's count above 4,294,967,295; the state */
     TREENUM_LONGEST_TREE_ABOVE_LIMIT = 10,  /* a state's longest tree above 4,096 entries; the state */
     TREENUM_TOTAL_ABOVE_LIMIT = 11,         /* a total above 4,294,967,295 */

@@ -956,7 +956,7 @@ def term_tests(expect):
 
 
 def accepting_tests(expect):
-    # All short lists over few states: one of distinct states passes, any other is 7 at the entry with which it is none.
+    # All short lists over few states: one of distinct states passes, any other is 7 at its first entry that is no state or a repeat.
     tables = [(states, [], accepting) for states in range(4) for accepting in all_lists(range(states + 2), states + 2)]
     wrong = []
     for states, rows, accepting in tables:

@@ -49,7 +49,7 @@ static const struct test {
     {"a repeated accepting entry", 5, LIST(PAPER), LIST(2, 4, 0, 4), TREENUM_ACCEPTING_ENTRY, 3},
     {"as many accepting entries as states", 5, LIST(PAPER), LIST(4, 3, 2, 1, 0), TREENUM_RESULT, 17},
     {"more accepting entries than states", 2, LIST(1, 0, 0), LIST(0, 1, 0), TREENUM_ACCEPTING_ENTRY, 2},
-    {"an accepting entry without a state", 0, NONE, LIST(0), TREENUM_ACCEPTING_ENTRY, 0},
+    {"an accepting entry, and no states", 0, NONE, LIST(0), TREENUM_ACCEPTING_ENTRY, 0},
     {"65,535 times 65,537", 12, LIST(SQUARES, FACTORS, 1, 11, 2, 9, 10), LIST(11), TREENUM_RESULT, 4294967295},
     {"65,536 times 65,536", 6, LIST(SQUARES, 1, 5, 2, 4, 4), NONE, TREENUM_COUNT_ABOVE_LIMIT, 5},
     {"65,536 times 65,536 times 0", 7, LIST(SQUARES, 1, 6, 3, 4, 4, 5), LIST(6), TREENUM_RESULT, 0},

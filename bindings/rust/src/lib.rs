@@ -98,7 +98,7 @@ const MOST_ENTRIES: usize = 4096;
 /// gives fits a `u32`, and a report travels in four bytes.
 ///
 /// The library checks the table again in each call, and the time of a call has that in it. As a
-/// `Table` has passed and does not change, its methods never refuse by 1 to 11.
+/// `Table` has passed and does not change, its methods never refuse as the check does.
 #[derive(Clone, Debug, PartialEq, Eq)]
 pub struct Table {
     states: u64,

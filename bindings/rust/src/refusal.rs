@@ -55,8 +55,9 @@ impl Error for Refusal {}
 
 /// The kinds of refusal, in the order of their numbers, from 1.
 ///
-/// 8 was withdrawn, and is not used again: no accepting list could meet it, for one whose entries
-/// are distinct states is no longer than the count of states.
+/// 8 (`AcceptingTooLong`) is withdrawn and not used again: it was never given. An accepting list
+/// longer than the count of states has an entry that is no state or equals an earlier one, which
+/// is 7.
 #[derive(Clone, Copy, Debug, PartialEq, Eq, Hash)]
 #[non_exhaustive]
 #[repr(u32)]
@@ -111,7 +112,7 @@ pub enum Kind {
 
 impl Kind {
     /// All kinds, in the order of their numbers.
-    pub const ALL: [Kind; 23] = [
+    pub const ALL: &'static [Kind] = &[
         Kind::TooManyStates,
         Kind::CutRow,
         Kind::TooManyRowsOrArguments,
@@ -154,7 +155,10 @@ impl Kind {
     /// assert_eq!(Kind::from_number(25), None);
     /// ```
     pub fn from_number(number: u32) -> Option<Kind> {
-        Kind::ALL.into_iter().find(|kind| kind.number() == number)
+        Kind::ALL
+            .iter()
+            .copied()
+            .find(|kind| kind.number() == number)
     }
 
     /// Document 01's words for what is turned away.

@@ -73,7 +73,7 @@ fn answer(returned: u32, value: u64) -> Result<u64, Refusal> {
     if returned == 0 {
         return Ok(value);
     }
-    let kind = Kind::from_number(returned).expect("the archive gives the numbers of kinds alone");
+    let kind = Kind::from_number(returned).expect("the archive gives the numbers of kinds");
     Err(Refusal { kind, place: value })
 }
 

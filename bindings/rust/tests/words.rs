@@ -22,9 +22,12 @@ fn kinds_are_those_of_the_library() {
         .lines()
         .filter_map(|line| line.trim().strip_prefix("Kind::"));
     let of_library: Vec<String> = arms.map(String::from).collect();
-    let here = Kind::ALL.map(|kind| format!("{kind:?} => {},", kind.number()));
+    let here: Vec<String> = Kind::ALL
+        .iter()
+        .map(|kind| format!("{kind:?} => {},", kind.number()))
+        .collect();
     assert_eq!(of_library, here);
-    for kind in Kind::ALL {
+    for &kind in Kind::ALL {
         assert_eq!(Kind::from_number(kind.number()), Some(kind));
     }
 }
@@ -33,7 +36,7 @@ fn kinds_are_those_of_the_library() {
 fn words_are_those_of_document_01() {
     let sentences = read("docs/SPEC-MAP.md").to_lowercase();
     let stands = |words: &str| sentences.contains(words);
-    for kind in Kind::ALL {
+    for &kind in Kind::ALL {
         let (words, number) = (kind.words(), kind.number());
         // "WORDS is NUMBER", and what comes after it
         let says = |rest: &str| {

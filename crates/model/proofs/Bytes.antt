@@ -24,9 +24,8 @@ letter-below b l = rw (lt-leb 65 b l, lt-leb 97 b (omega arith))
 
 -- the lowest name byte is `-`, 45
 low-no-byte : (b : ℕ) → b < 45 → isNameByte b ≡ false
-unfolding isNameByte isLetter
-low-no-byte b l =
-    rw (lt-leb 65 b (omega arith), lt-leb 97 b (omega arith), lt-leb 48 b (omega arith), ne-eqb b 45 (λ e. omega arith), ne-eqb b 95 (λ e. omega arith))
+unfolding isNameByte
+low-no-byte b l = rw (letter-below b (omega arith), lt-leb 48 b (omega arith), ne-eqb b 45 (λ e. omega arith), ne-eqb b 95 (λ e. omega arith))
 
 -- so no name byte: the end of a text, a names list's byte 10, `(`, `)` and `,`
 pub end-no-byte : isNameByte 0 ≡ false

@@ -1,4 +1,4 @@
--- The withdrawn 8, and the card: each operation refuses by its numbers, and by no others.
+-- The card: each operation refuses by its numbers, and by no others; and the withdrawn 8.
 use Prim.Native.Nat.{ℕ, _≤_, _<_}
 use mathlib.Core.Path.{_≡_, refl, ap, sym, _∙_}
 use mathlib.Core.Bool.{Bool, true, false, _||_}
@@ -15,7 +15,7 @@ use Rattle.model.specs.Limits.{BeyondLimits, nine, ten}
 use Rattle.model.specs.CheckRefusals.{RowRefused, row2, row3, row4, row5, row6, CheckRefused, check1, check2to6, check7, check9to10, check11}
 use Rattle.model.specs.TermRefusals.{ReadRefused, read17, read18, read19, read20, read21, read22, WriteRefused, write17, write12, write13, write23, write24}
 use Rattle.model.specs.TreeRefusals.{NumberRefused, numberAsCheck, number12, number13, number14, TreeRefused, treeAsCheck, tree15, tree16}
-use Rattle.model.specs.Card.{checkWithEight, EightNever, LongList, AsBefore, Operation, checking, numbering, writing, readingTerm, writingTerm, Gives, cardNumbers, Card, NoRefusal}
+use Rattle.model.specs.Card.{checkWithEight, EightUnmet, LongList, AsBefore, Operation, checking, numbering, writing, readingTerm, writingTerm, Input, outcomeOf, cardNumbers, Card, NoRefusal}
 use Rattle.model.proofs.Choice.{if-no, or-true, or-false, not-both, no-fault, first-fault, Decided, clear, faulty, decided}
 use Rattle.model.proofs.Checked.{entry-good, first-few, entries-few}
 use Rattle.model.proofs.CheckRefusals.{entry-faulty, entry-faultless, check-refuses}
@@ -105,16 +105,15 @@ by-write (write13 n s l f) = on writingTerm 13 n refl
 by-write (write23 n s l w f) = on writingTerm 23 n refl
 by-write (write24 n p w l) = on writingTerm 24 n refl
 
--- where an operation refuses, its number is on its card
-on-card : (op : Operation) (number place : ℕ) → Gives op (refused number place) → List·Memᴰ number (cardNumbers op)
-on-card checking number place g = check-card _ _ _ number place (g .3)
-on-card numbering number place g = by-number (number-refuses _ _ _ _ number place .0 (g .4))
-on-card writing number place g = by-tree (tree-refuses _ _ _ _ _ number place .0 (g .5))
-on-card readingTerm number place g = by-read (read-refuses _ _ _ number place .0 (g .3))
-on-card writingTerm number place g = by-write (write-refuses _ _ _ number place .0 (g .3))
+on-card : (op : Operation) (x : Input op) (number place : ℕ) → outcomeOf op x ≡ refused number place → List·Memᴰ number (cardNumbers op)
+on-card checking T number place e = check-card (T .states) (T .rows) (T .accepting) number place e
+on-card numbering (T, tree) number place e = by-number (number-refuses (T .states) (T .rows) (T .accepting) tree number place .0 e)
+on-card writing (T, n, room) number place e = by-tree (tree-refuses (T .states) (T .rows) (T .accepting) n room number place .0 e)
+on-card readingTerm (names, text, room) number place e = by-read (read-refuses names text room number place .0 e)
+on-card writingTerm (names, tree, room) number place e = by-write (write-refuses names tree room number place .0 e)
 
 pub card : Card
-card op number = (λ p. on-card op number (p .0) (p .1), made op number)
+card = record { only = on-card; each = made }
 
 -- ---- numbers that are not on the card
 
@@ -127,10 +126,10 @@ neither readingTerm = (refl, refl)
 neither writingTerm = (refl, refl)
 
 pub never-zero : NoRefusal 0
-never-zero op place g = not-in (cardNumbers op) 0 (neither op .0) (on-card op 0 place g)
+never-zero op x place e = not-in (cardNumbers op) 0 (neither op .0) (on-card op x 0 place e)
 
 pub never-eight : NoRefusal 8
-never-eight op place g = not-in (cardNumbers op) 8 (neither op .1) (on-card op 8 place g)
+never-eight op x place e = not-in (cardNumbers op) 8 (neither op .1) (on-card op x 8 place e)
 
 -- ---- the check with 8
 
@@ -152,8 +151,9 @@ as-before states rows accepting =
     (follows (howManyEntries accepting) (acceptingGround states accepting) _ _
     (λ c. sym (if-no (ltb states (howManyEntries accepting)) (refused 8 0) _ (le-ltb states (howManyEntries accepting) (clear-few states accepting c)))))
 
-pub eight-never : EightNever
-eight-never states rows accepting place e = never-eight checking place (states, rows, accepting, as-before states rows accepting ∙ e)
+pub eight-unmet : EightUnmet
+eight-unmet states rows accepting place e =
+    never-eight checking (record { states = states; rows = rows; accepting = accepting }) place (as-before states rows accepting ∙ e)
 
 pub long-list : LongList
 long-list states rows accepting few sound long = go (decided (howManyEntries accepting) (acceptingGround states accepting) (result 0))

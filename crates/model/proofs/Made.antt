@@ -1,8 +1,9 @@
--- Each number on the card can be made: an input for each, most of them by computation.
+-- Each number on the card can be made: something to lend for each, most of them by computation.
 use Prim.Native.Nat.{ℕ}
 use mathlib.Core.Path.{_≡_, refl, sym, subst}
+use mathlib.Core.Bool.{true}
 use mathlib.Core.Logic.{_⊎_, inl, inr}
-use mathlib.Core.List.{List, [], _∷_, _++_, List·Memᴰ, List·Memᴰ·cases-cons, List·Memᴰ·not-nil, List·Memᴰ·append-cases}
+use mathlib.Core.List.{List, [], _∷_, _++_, List·Memᴰ, List·Memᴰ·cases-cons, List·Memᴰ·not-nil}
 use lib.ListN.{replicate}
 use Rattle.model.specs.Answers.{refused}
 use Rattle.model.specs.Choice.{refuseOn, firstFaulty, anyBelow}
@@ -20,13 +21,15 @@ use Rattle.model.specs.TermOperations.{symbolsOf, namesOf, entriesOf, by
 use Rattle.model.specs.Number.{reachesNone, stuckThen, acceptedThen, numberTree, numberOutcome}
 use Rattle.model.specs.Write.{treeEntries, writeTree, writeOutcome}
 use Rattle.model.specs.TreeRefusals.{numberAsCheck, treeAsCheck}
-use Rattle.model.specs.Card.{Operation, checking, numbering, writing, readingTerm, writingTerm, Gives, checkNumbers, cardNumbers}
+use Rattle.model.specs.Card.{Operation, checking, numbering, writing, readingTerm, writingTerm, LentTable, Input, outcomeOf, lendable, checkNumbers, cardNumbers}
+use Rattle.model.proofs.Choice.{and-both}
 use Rattle.model.proofs.TreeRefusals.{number-refuses, tree-refuses}
-use Rattle.model.proofs.TermExamples.{ab, wide, tree-4098}
+use Rattle.model.proofs.TermExamples.{ab, leaves, wide, tree-4098}
+use Rattle.model.proofs.TableExamples.{leaf}
 use Rattle.model.proofs.Edges.{row, power, two, below-above, even, lengths}
 
-abbrev Made : Operation → ℕ → Type 0
-Made op number = (place : ℕ) × Gives op (refused number place)
+abbrev pub Made : Operation → ℕ → Type 0
+Made op number = (x : Input op) × (lendable op x ≡ true) × (place : ℕ) × (outcomeOf op x ≡ refused number place)
 
 -- each of the numbers has the property
 infixr 5 _also_
@@ -34,89 +37,94 @@ data Each (P : ℕ → Type 0) : List ℕ → Type 0 where
   all : Each P []
   _also_ : {x : ℕ} {xs : List ℕ} → P x → Each P xs → Each P (x ∷ xs)
 
-each : (P : ℕ → Type 0) {xs : List ℕ} → Each P xs → (k : ℕ) → List·Memᴰ k xs → P k
-each P all k m = absurd (List·Memᴰ·not-nil m)
-each P (_also_ {x} {xs} p h) k m = go (each P h k) (List·Memᴰ·cases-cons m)
+each-of : {P : ℕ → Type 0} {xs : List ℕ} → Each P xs → (k : ℕ) → List·Memᴰ k xs → P k
+each-of all k m = absurd (List·Memᴰ·not-nil m)
+each-of {P} (_also_ {x} {xs} p h) k m = go (each-of h k) (List·Memᴰ·cases-cons m)
   where
     go : (List·Memᴰ k xs → P k) → (k ≡ x) ⊎ List·Memᴰ k xs → P k
     go rest (inl e) = subst P (sym e) p
     go rest (inr r) = rest r
 
--- a leaf in state 0
-abbrev leaf : List ℕ
-leaf = row 1 0 []
+-- the same with another property, and with more numbers
+then-each : {P Q : ℕ → Type 0} {xs ys : List ℕ} → ((k : ℕ) → P k → Q k) → Each P xs → Each Q ys → Each Q (xs ++ ys)
+then-each f all h = h
+then-each f (_also_ {x} p g) h = f x p also then-each f g h
+
+abbrev table : (states : ℕ) (rows accepting : List ℕ) → LentTable
+table states rows accepting = record { states = states; rows = rows; accepting = accepting }
 
 check-made : Each (Made checking) checkNumbers
-unfolding power two below-above even lengths checkOutcome checkWithin firstFaulty refuseOn anyBelow rowStart howMany howManyRows firstRows rowsOf sameBy rowIs sum product weight stateCounts grow count total largest rowLongest stateLongest longest allBelow cut tooMany outOfRange notBelow repeated rowGround acceptingGround stateGround
+unfolding power two below-above even lengths leaf checkOutcome checkWithin firstFaulty refuseOn anyBelow rowStart howMany howManyRows firstRows rowsOf sameBy rowIs sum product weight stateCounts grow count total largest rowLongest stateLongest longest allBelow cut tooMany outOfRange notBelow repeated rowGround acceptingGround stateGround
 check-made =
     -- 1 to 7
-    (0, (257, [], [], refl))
-    also (0, (1, 1 ∷ [], [], refl))
-    also (0, (1, row 1 0 (replicate 17 0), [], refl))
-    also (0, (1, row 0 0 [], [], refl))
-    also (0, (1, row 1 0 (0 ∷ []), [], refl))
-    also (1, (1, leaf ++ leaf, [], refl))
-    also (0, (0, [], 0 ∷ [], refl))
-    -- 9 to 11: "two with 65,536"; "one leaf more"; 4,294,967,295 trees and one
-    also (2, (3, even ++ row 5 2 (1 ∷ 1 ∷ []), [], refl))
-    also (3, (4, lengths ++ row 1 3 (replicate 7 2 ++ replicate 8 1 ++ 0 ∷ []), [], refl))
-    also (0, (4, below-above ++ row 5 3 (1 ∷ 2 ∷ []), 3 ∷ 0 ∷ [], refl))
-    also all
-
-number-made : Each (Made numbering) (12 ∷ 13 ∷ 14 ∷ [])
-unfolding checkOutcome checkWithin firstFaulty refuseOn anyBelow rowStart howMany howManyRows firstRows rowsOf sameBy sum total serialForest serial rowWith statesOf entryOf openAfter entryGround endsTooSoon formThen treeThen levelsOf treeFrom reachesNone stuckThen acceptedThen numberTree numberOutcome
-number-made = (0, (0, [], [], replicate 4097 0, refl)) also (0, (0, [], [], [], refl)) also (1, (0, [], [], 1 ∷ 0 ∷ [], refl)) also all
-
-write-made : Each (Made writing) (15 ∷ 16 ∷ [])
-unfolding checkOutcome checkWithin firstFaulty refuseOn anyBelow rowStart howMany howManyRows firstRows rowsOf sameBy rowIs sum product weight stateCounts grow count total largest rowLongest stateLongest longest allBelow cut tooMany outOfRange notBelow repeated rowGround acceptingGround stateGround serialForest serial findBy childrenFrom treeIn treeOf treeEntries writeTree writeOutcome
-write-made = (0, (0, [], [], 0, 0, refl)) also (2, (1, leaf, 0 ∷ [], 0, 1, refl)) also all
-
--- one name
-abbrev a : List ℕ
-a = ascii "a\n"
-
-made-21 : Made readingTerm 21
-made-21 = (0, (ab, textOf (wide 2047), 4096, tree-4098))
-
-read-made : Each (Made readingTerm) (cardNumbers readingTerm)
-unfolding ascii refuseOn firstFaulty anyBelow sameBy serialForest serial isLetter isNameByte allNameBytes isName lower alike linesOf lineWith symbolOf isListed lineGround namesThen textOfTerms textOf step scan termThen run nameBegins before seenFrom termFrom symbolsOf entriesOf nameGround readTermOutcome
-read-made =
-    (0, ([], [], 0, refl))
-    also (0, (a, replicate 65537 97, 0, refl))
-    also (0, (a, [], 0, refl))
-    also (0, (a, ascii "b", 0, refl))
-    also made-21
-    also (2, (a, ascii "a", 1, refl))
-    also all
-
-write-term-made : Each (Made writingTerm) (cardNumbers writingTerm)
-unfolding ascii refuseOn firstFaulty anyBelow sameBy serialForest serial isLetter isNameByte allNameBytes isName nameOf lower alike linesOf lineGround namesThen openAfter entryGround endsTooSoon formThen treeThen levelsOf treeFrom textOfTerms textOf namesOf bytesOf symbolGround writeTermOutcome
-write-term-made =
-    (0, ([], [], 0, refl))
-    also (0, (a, replicate 4097 0, 0, refl))
-    also (0, (a, [], 0, refl))
-    also (0, (a, 2 ∷ 0 ∷ [], 0, refl))
-    also (1, (a, 1 ∷ 0 ∷ [], 0, refl))
+    (table 257 [] [], refl, 0, refl)
+    also (table 1 (1 ∷ []) [], refl, 0, refl)
+    also (table 1 (row 1 0 (replicate 17 0)) [], refl, 0, refl)
+    also (table 1 (row 0 0 []) [], refl, 0, refl)
+    also (table 1 (row 1 0 (0 ∷ [])) [], refl, 0, refl)
+    also (table 1 (leaf ++ leaf) [], refl, 1, refl)
+    also (table 0 [] (0 ∷ []), refl, 0, refl)
+    -- 9 to 11: "two with 65,536"; "one leaf more"; 4,294,967,295 trees and two
+    also (table 3 (even ++ row 5 2 (1 ∷ 1 ∷ [])) [], refl, 2, refl)
+    also (table 4 (lengths ++ row 1 3 (replicate 7 2 ++ replicate 8 1 ++ 0 ∷ [])) [], refl, 3, refl)
+    also (table 4 (below-above ++ row 5 3 (1 ∷ 2 ∷ [])) (3 ∷ 0 ∷ []), refl, 0, refl)
     also all
 
 -- "It first refuses as the check does."
 number-as-check : (k : ℕ) → Made checking k → Made numbering k
-number-as-check k (place, (states, rows, accepting, e)) = (place, (states, rows, accepting, [], number-refuses states rows accepting [] k place .1 (numberAsCheck e)))
+unfolding allBelow
+number-as-check k (T, l, place, e) =
+    ((T, []), and-both _ true l refl, place, number-refuses (T .states) (T .rows) (T .accepting) [] k place .1 (numberAsCheck e))
+
+number-made : Each (Made numbering) (cardNumbers numbering)
+unfolding checkOutcome checkWithin firstFaulty refuseOn anyBelow rowStart howMany howManyRows firstRows rowsOf sameBy sum total allBelow serialForest serial rowWith statesOf entryOf openAfter entryGround endsTooSoon formThen treeThen levelsOf treeFrom reachesNone stuckThen acceptedThen numberTree numberOutcome
+number-made =
+    then-each number-as-check check-made
+    (((table 0 [] [], replicate 4097 0), refl, 0, refl)
+    also ((table 0 [] [], []), refl, 0, refl)
+    also ((table 0 [] [], 1 ∷ 0 ∷ []), refl, 1, refl)
+    also all)
 
 write-as-check : (k : ℕ) → Made checking k → Made writing k
-write-as-check k (place, (states, rows, accepting, e)) = (place, (states, rows, accepting, 0, 0, tree-refuses states rows accepting 0 0 k place .1 (treeAsCheck e)))
+write-as-check k (T, l, place, e) =
+    ((T, 0, 0), and-both _ true (and-both _ true l refl) refl, place, tree-refuses (T .states) (T .rows) (T .accepting) 0 0 k place .1 (treeAsCheck e))
+
+write-made : Each (Made writing) (cardNumbers writing)
+unfolding leaf checkOutcome checkWithin firstFaulty refuseOn anyBelow rowStart howMany howManyRows firstRows rowsOf sameBy rowIs sum product weight stateCounts grow count total largest rowLongest stateLongest longest allBelow cut tooMany outOfRange notBelow repeated rowGround acceptingGround stateGround serialForest serial findBy childrenFrom treeIn treeOf treeEntries writeTree writeOutcome
+write-made =
+    then-each write-as-check check-made
+    (((table 0 [] [], 0, 0), refl, 0, refl)
+    also ((table 1 leaf (0 ∷ []), 0, 1), refl, 2, refl)
+    also all)
+
+made-21 : Made readingTerm 21
+unfolding ascii ab leaves allBelow textOfTerms textOf
+made-21 = ((ab, textOf (wide 2047), 4096), refl, 0, tree-4098)
+
+read-made : Each (Made readingTerm) (cardNumbers readingTerm)
+unfolding ascii ab refuseOn firstFaulty anyBelow sameBy allBelow serialForest serial isLetter isNameByte allNameBytes isName lower alike linesOf lineWith symbolOf isListed lineGround namesThen textOfTerms textOf step scan termThen run nameBegins before seenFrom termFrom symbolsOf entriesOf nameGround readTermOutcome
+read-made =
+    (([], [], 0), refl, 0, refl)
+    also ((ab, replicate 65537 97, 0), refl, 0, refl)
+    also ((ab, [], 0), refl, 0, refl)
+    also ((ab, ascii "c", 0), refl, 0, refl)
+    also made-21
+    also ((ab, ascii "a", 1), refl, 2, refl)
+    also all
+
+write-term-made : Each (Made writingTerm) (cardNumbers writingTerm)
+unfolding ascii ab refuseOn firstFaulty anyBelow sameBy allBelow serialForest serial isLetter isNameByte allNameBytes isName nameOf lower alike linesOf lineGround namesThen openAfter entryGround endsTooSoon formThen treeThen levelsOf treeFrom textOfTerms textOf namesOf bytesOf symbolGround writeTermOutcome
+write-term-made =
+    (([], [], 0), refl, 0, refl)
+    also ((ab, replicate 4097 0, 0), refl, 0, refl)
+    also ((ab, [], 0), refl, 0, refl)
+    also ((ab, 3 ∷ 0 ∷ [], 0), refl, 0, refl)
+    also ((ab, 1 ∷ 0 ∷ [], 0), refl, 1, refl)
+    also all
 
 pub made : (op : Operation) (number : ℕ) → List·Memᴰ number (cardNumbers op) → Made op number
-made checking k m = each (Made checking) check-made k m
-made numbering k m = go (List·Memᴰ·append-cases checkNumbers m)
-  where
-    go : List·Memᴰ k checkNumbers ⊎ List·Memᴰ k (12 ∷ 13 ∷ 14 ∷ []) → Made numbering k
-    go (inl m) = number-as-check k (each (Made checking) check-made k m)
-    go (inr m) = each (Made numbering) number-made k m
-made writing k m = go (List·Memᴰ·append-cases checkNumbers m)
-  where
-    go : List·Memᴰ k checkNumbers ⊎ List·Memᴰ k (15 ∷ 16 ∷ []) → Made writing k
-    go (inl m) = write-as-check k (each (Made checking) check-made k m)
-    go (inr m) = each (Made writing) write-made k m
-made readingTerm k m = each (Made readingTerm) read-made k m
-made writingTerm k m = each (Made writingTerm) write-term-made k m
+made checking = each-of check-made
+made numbering = each-of number-made
+made writing = each-of write-made
+made readingTerm = each-of read-made
+made writingTerm = each-of write-term-made

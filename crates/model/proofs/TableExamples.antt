@@ -39,7 +39,7 @@ due (numbers states rows accepting tree answer) = (answer, [])
 due (writes states rows accepting number tree answer after) = (answer, after)
 
 -- a leaf in state 0
-leaf : List ℕ
+unfoldable pub leaf : List ℕ
 leaf = row 1 0 []
 
 checked : List Example
@@ -128,7 +128,7 @@ numbered =
     -- the last child changes fastest
     ∷ numbers 3 small (2 ∷ []) (3 ∷ 2 ∷ 1 ∷ 0 ∷ 0 ∷ 2 ∷ 1 ∷ 0 ∷ 1 ∷ 0 ∷ 0 ∷ 0 ∷ []) (result 1)
     ∷ numbers 3 small (2 ∷ []) (3 ∷ 2 ∷ 1 ∷ 0 ∷ 1 ∷ 0 ∷ 0 ∷ 2 ∷ 1 ∷ 0 ∷ 0 ∷ 0 ∷ []) (result 2)
-    -- 1 to 11 come first
+    -- the check's refusals come first
     ∷ numbers 257 [] [] (256 ∷ []) (refused 1 0)
     ∷ numbers 1 (leaf ++ 1 ∷ []) [] (replicate 4097 1) (refused 2 1)
     ∷ numbers 3 (even ++ row 5 2 (1 ∷ 1 ∷ [])) [] [] (refused 9 2)
@@ -168,7 +168,7 @@ written =
     -- the last child changes fastest
     ∷ writes 3 small (2 ∷ []) 1 (replicate 12 7) (result 12) (3 ∷ 2 ∷ 1 ∷ 0 ∷ 0 ∷ 2 ∷ 1 ∷ 0 ∷ 1 ∷ 0 ∷ 0 ∷ 0 ∷ [])
     ∷ writes 3 small (2 ∷ []) 2 (replicate 12 7) (result 12) (3 ∷ 2 ∷ 1 ∷ 0 ∷ 1 ∷ 0 ∷ 0 ∷ 2 ∷ 1 ∷ 0 ∷ 0 ∷ 0 ∷ [])
-    -- 15, before 16; 1 to 11 come first
+    -- 15, before 16; the check's refusals come first
     ∷ writes 3 small (1 ∷ 0 ∷ []) 3 (replicate 2 7) (refused 15 0) (replicate 2 7)
     ∷ writes 3 small (1 ∷ 0 ∷ []) 4294967296 [] (refused 15 0) []
     ∷ writes 3 small (1 ∷ 3 ∷ []) 4294967296 (replicate 2 7) (refused 7 1) (replicate 2 7)

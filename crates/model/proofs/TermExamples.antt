@@ -115,7 +115,7 @@ due (reads names text tree answer after) = (answer, after)
 due (writes names tree text answer after) = (answer, after)
 
 -- the names `a` and `b`, each followed by byte 10
-pub ab : List ℕ
+unfoldable pub ab : List ℕ
 ab = ascii "a\nb\n"
 
 -- two entries or bytes that stay

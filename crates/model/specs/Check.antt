@@ -69,7 +69,7 @@ listsThen states rows accepting otherwise =
     -- "Then the accepting list" ("a list longer than the count of states is 8": withdrawn, specs/Card)
     (firstFaulty (howManyEntries accepting) (acceptingGround states accepting) otherwise)
 
--- the counts of a table, with a limit for them and for the total
+-- the rest of the check, 9 to 11, with a limit for counts and the total
 abbrev pub countsOutcome : (limit : ℕ) → Table → Outcome
 countsOutcome limit T =
     -- "Then states are taken in turn from 0, the first faulty state decides, and its number is the place"

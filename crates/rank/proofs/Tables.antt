@@ -151,7 +151,7 @@ then-same f o o′ e = ap (λ (x : Outcome). checkedThen x f) e
 
 module _ (accepting tree : List ℕ) {states : ℕ} {rows offsets heads next first after cs ls sums : List ℕ} {k : Checked}
     (a : CheckAnswer states rows accepting offsets heads next first after cs ls sums k) where
-  -- 1 to 11
+  -- the check's refusals
   pub table-refused : (r : Refusal) → k ≡ Refuses r → refusedBy r ≡ numberOutcome states rows accepting tree
   unfolding numberOutcome numberTree
   table-refused r e = then-same _ (refusedBy r) (checkOutcome states rows accepting) (sym (ap told e) ∙ a .answer)
