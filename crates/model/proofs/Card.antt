@@ -164,5 +164,5 @@ long-list states rows accepting few sound long = go (decided (howManyEntries acc
       i,
       first-few states accepting i (λ j m. entry-good states accepting j (c j m)),
       check-refuses states rows accepting 7 i .1 (check7 refl few sound
-      (record { within = l; before = λ j m. entry-faultless states accepting j (c j m); here = entry-faulty states accepting i p .1 })),
+          (record { within = l; before = λ j m. entry-faultless states accepting j (c j m); here = entry-faulty states accepting i p .1 })),
     )

@@ -5,7 +5,6 @@ use mathlib.Core.Bool.{true}
 use mathlib.Core.Logic.{_⊎_, inl, inr}
 use mathlib.Core.List.{List, [], _∷_, _++_, List·Memᴰ, List·Memᴰ·cases-cons, List·Memᴰ·not-nil}
 use lib.ListN.{replicate}
-use Rattle.model.specs.Answers.{refused}
 use Rattle.model.specs.Choice.{refuseOn, firstFaulty, anyBelow}
 use Rattle.model.specs.Text.{ascii}
 use Rattle.model.specs.Table.{rowStart, howMany, howManyRows, firstRows, rowsOf, sameBy, rowIs}
@@ -21,15 +20,12 @@ use Rattle.model.specs.TermOperations.{symbolsOf, namesOf, entriesOf, by
 use Rattle.model.specs.Number.{reachesNone, stuckThen, acceptedThen, numberTree, numberOutcome}
 use Rattle.model.specs.Write.{treeEntries, writeTree, writeOutcome}
 use Rattle.model.specs.TreeRefusals.{numberAsCheck, treeAsCheck}
-use Rattle.model.specs.Card.{Operation, checking, numbering, writing, readingTerm, writingTerm, LentTable, Input, outcomeOf, lendable, checkNumbers, cardNumbers}
+use Rattle.model.specs.Card.{Operation, checking, numbering, writing, readingTerm, writingTerm, LentTable, checkNumbers, cardNumbers, CanBeMade}
 use Rattle.model.proofs.Choice.{and-both}
 use Rattle.model.proofs.TreeRefusals.{number-refuses, tree-refuses}
 use Rattle.model.proofs.TermExamples.{ab, leaves, wide, tree-4098}
 use Rattle.model.proofs.TableExamples.{leaf}
 use Rattle.model.proofs.Edges.{row, power, two, below-above, even, lengths}
-
-abbrev pub Made : Operation → ℕ → Type 0
-Made op number = (x : Input op) × (lendable op x ≡ true) × (place : ℕ) × (outcomeOf op x ≡ refused number place)
 
 -- each of the numbers has the property
 infixr 5 _also_
@@ -53,7 +49,7 @@ then-each f (_also_ {x} p g) h = f x p also then-each f g h
 abbrev table : (states : ℕ) (rows accepting : List ℕ) → LentTable
 table states rows accepting = record { states = states; rows = rows; accepting = accepting }
 
-check-made : Each (Made checking) checkNumbers
+check-made : Each (CanBeMade checking) checkNumbers
 unfolding power two below-above even lengths leaf checkOutcome checkWithin firstFaulty refuseOn anyBelow rowStart howMany howManyRows firstRows rowsOf sameBy rowIs sum product weight stateCounts grow count total largest rowLongest stateLongest longest allBelow cut tooMany outOfRange notBelow repeated rowGround acceptingGround stateGround
 check-made =
     -- 1 to 7
@@ -71,12 +67,12 @@ check-made =
     also all
 
 -- "It first refuses as the check does."
-number-as-check : (k : ℕ) → Made checking k → Made numbering k
+number-as-check : (k : ℕ) → CanBeMade checking k → CanBeMade numbering k
 unfolding allBelow
 number-as-check k (T, l, place, e) =
     ((T, []), and-both _ true l refl, place, number-refuses (T .states) (T .rows) (T .accepting) [] k place .1 (numberAsCheck e))
 
-number-made : Each (Made numbering) (cardNumbers numbering)
+number-made : Each (CanBeMade numbering) (cardNumbers numbering)
 unfolding checkOutcome checkWithin firstFaulty refuseOn anyBelow rowStart howMany howManyRows firstRows rowsOf sameBy sum total allBelow serialForest serial rowWith statesOf entryOf openAfter entryGround endsTooSoon formThen treeThen levelsOf treeFrom reachesNone stuckThen acceptedThen numberTree numberOutcome
 number-made =
     then-each number-as-check check-made
@@ -85,11 +81,11 @@ number-made =
     also ((table 0 [] [], 1 ∷ 0 ∷ []), refl, 1, refl)
     also all)
 
-write-as-check : (k : ℕ) → Made checking k → Made writing k
+write-as-check : (k : ℕ) → CanBeMade checking k → CanBeMade writing k
 write-as-check k (T, l, place, e) =
     ((T, 0, 0), and-both _ true (and-both _ true l refl) refl, place, tree-refuses (T .states) (T .rows) (T .accepting) 0 0 k place .1 (treeAsCheck e))
 
-write-made : Each (Made writing) (cardNumbers writing)
+write-made : Each (CanBeMade writing) (cardNumbers writing)
 unfolding leaf checkOutcome checkWithin firstFaulty refuseOn anyBelow rowStart howMany howManyRows firstRows rowsOf sameBy rowIs sum product weight stateCounts grow count total largest rowLongest stateLongest longest allBelow cut tooMany outOfRange notBelow repeated rowGround acceptingGround stateGround serialForest serial findBy childrenFrom treeIn treeOf treeEntries writeTree writeOutcome
 write-made =
     then-each write-as-check check-made
@@ -97,11 +93,11 @@ write-made =
     also ((table 1 leaf (0 ∷ []), 0, 1), refl, 2, refl)
     also all)
 
-made-21 : Made readingTerm 21
+made-21 : CanBeMade readingTerm 21
 unfolding ascii ab leaves allBelow textOfTerms textOf
 made-21 = ((ab, textOf (wide 2047), 4096), refl, 0, tree-4098)
 
-read-made : Each (Made readingTerm) (cardNumbers readingTerm)
+read-made : Each (CanBeMade readingTerm) (cardNumbers readingTerm)
 unfolding ascii ab refuseOn firstFaulty anyBelow sameBy allBelow serialForest serial isLetter isNameByte allNameBytes isName lower alike linesOf lineWith symbolOf isListed lineGround namesThen textOfTerms textOf step scan termThen run nameBegins before seenFrom termFrom symbolsOf entriesOf nameGround readTermOutcome
 read-made =
     (([], [], 0), refl, 0, refl)
@@ -112,7 +108,7 @@ read-made =
     also ((ab, ascii "a", 1), refl, 2, refl)
     also all
 
-write-term-made : Each (Made writingTerm) (cardNumbers writingTerm)
+write-term-made : Each (CanBeMade writingTerm) (cardNumbers writingTerm)
 unfolding ascii ab refuseOn firstFaulty anyBelow sameBy allBelow serialForest serial isLetter isNameByte allNameBytes isName nameOf lower alike linesOf lineGround namesThen openAfter entryGround endsTooSoon formThen treeThen levelsOf treeFrom textOfTerms textOf namesOf bytesOf symbolGround writeTermOutcome
 write-term-made =
     (([], [], 0), refl, 0, refl)
@@ -122,7 +118,7 @@ write-term-made =
     also ((ab, 1 ∷ 0 ∷ [], 0), refl, 1, refl)
     also all
 
-pub made : (op : Operation) (number : ℕ) → List·Memᴰ number (cardNumbers op) → Made op number
+pub made : (op : Operation) (number : ℕ) → List·Memᴰ number (cardNumbers op) → CanBeMade op number
 made checking = each-of check-made
 made numbering = each-of number-made
 made writing = each-of write-made

@@ -117,13 +117,16 @@ cardNumbers readingTerm = 17 ∷ 18 ∷ 19 ∷ 20 ∷ 21 ∷ 22 ∷ []
 -- "It refuses 17, then 12, then 13, as above."
 cardNumbers writingTerm = 17 ∷ 12 ∷ 13 ∷ 23 ∷ 24 ∷ []
 
+-- the number can be made: something that can be lent is refused by it
+abbrev pub CanBeMade : Operation → ℕ → Type 0
+CanBeMade op number = (x : Input op) × (lendable op x ≡ true) × (place : ℕ) × (outcomeOf op x ≡ refused number place)
+
 -- the card says which refusals there are (the theorem `card`)
 pub record Card : Type 0 where
   -- no others: whatever an operation takes, where it refuses, the number is on its card
   pub only : (op : Operation) (x : Input op) (number place : ℕ) → outcomeOf op x ≡ refused number place → List·Memᴰ number (cardNumbers op)
-  -- each can be made: something that can be lent is refused by it
-  pub each : (op : Operation) (number : ℕ) → List·Memᴰ number (cardNumbers op)
-      → (x : Input op) × (lendable op x ≡ true) × (place : ℕ) × (outcomeOf op x ≡ refused number place)
+  -- and each of them can be made
+  pub each : (op : Operation) (number : ℕ) → List·Memᴰ number (cardNumbers op) → CanBeMade op number
 
 -- no operation refuses by this number (the laws `never-zero`, for the C functions, which return 0 for a result; `never-eight`)
 abbrev pub NoRefusal : ℕ → Type 0
