@@ -1,0 +1,2 @@
+-- The laws of logs.
+pub mod Laws

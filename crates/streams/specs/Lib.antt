@@ -1,0 +1,3 @@
+-- What goes through standard input and standard output.
+pub mod Log
+pub mod Parts
