@@ -7,6 +7,7 @@ pub mod Outcomes
 pub mod Putting
 pub mod Answering
 pub mod Walking
+pub mod Gathering
 pub mod Run
 pub mod OneLine
 pub mod Samples

@@ -20,6 +20,9 @@ ghost use Rattle.line.specs.Held.{beyond, longestLine, Holds, Holding, B
 // Above every total: this stands for every number from here up.
 const BEYOND: u64 = 4294967296;
 
+// The most bytes that answer one line.
+const LONGEST_LINE: usize = 53249;
+
 // A line so far: how many bytes it has (4,097 stands for more), whether all are digits, and the number that digits make.
 pub struct Line {
     len: usize,
@@ -154,20 +157,21 @@ fn put_term(names: &[u8], tree: &[u16], out: &mut [u8]) -> usize
     }
 }
 
-// Puts the output line that answers a number.
+// Puts the output line that answers a number; the tree is written into `tree`.
 fn answer_number(
     states: u64,
     rows: &[u16],
     accepting: &[u16],
     names: &[u8],
     number: u64,
+    tree: &mut [u16],
     out: &mut [u8],
 ) -> usize
+    requires { ⌜ length (now tree) ≡ 4096 ⌝ }
     requires { ⌜ longestLine ≤ length (now out) ⌝ }
     ensures { λ r. ⌜ Begins (now (out .exit)) (answerNumber states (now (rows .entry)) (now (accepting .entry)) (now (names .entry)) number) r ⌝ }
 {
-    let mut tree = [0u16; 4096];
-    match unrank::write(states, rows, accepting, number, &mut tree) {
+    match unrank::write(states, rows, accepting, number, &mut *tree) {
         Answer::Result(count) => {
             let n = count as usize;
             put_term(names, &tree[..n], out)
@@ -187,20 +191,21 @@ fn answer_tree(states: u64, rows: &[u16], accepting: &[u16], tree: &[u16], out: 
     }
 }
 
-// Puts the output line that answers a term.
+// Puts the output line that answers a term; the tree is read into `tree`.
 fn answer_term(
     states: u64,
     rows: &[u16],
     accepting: &[u16],
     names: &[u8],
     text: &[u8],
+    tree: &mut [u16],
     out: &mut [u8],
 ) -> usize
+    requires { ⌜ length (now tree) ≡ 4096 ⌝ }
     requires { ⌜ longestLine ≤ length (now out) ⌝ }
     ensures { λ r. ⌜ Begins (now (out .exit)) (answerTerm states (now (rows .entry)) (now (accepting .entry)) (now (names .entry)) (now (text .entry))) r ⌝ }
 {
-    let mut tree = [0u16; 4096];
-    match term::read_term(names, text, &mut tree) {
+    match term::read_term(names, text, &mut *tree) {
         Answer::Result(count) => {
             let n = count as usize;
             answer_tree(states, rows, accepting, &tree[..n], out)
@@ -219,7 +224,7 @@ fn is_number(line: Line) -> bool
     false
 }
 
-// Puts the output line that answers an input line.
+// Puts the output line that answers an input line; `tree` is a list to work in.
 fn answer(
     states: u64,
     rows: &[u16],
@@ -227,26 +232,71 @@ fn answer(
     names: &[u8],
     line: Line,
     text: &[u8],
+    tree: &mut [u16],
     out: &mut [u8],
 ) -> usize
     requires { ⌜ Holding line (now text) ⌝ }
-    requires { ⌜ longestLine ≤ length (now out) ⌝ }
+    requires { ⌜ (length (now tree) ≡ 4096) × (longestLine ≤ length (now out)) ⌝ }
     ensures { λ r. ⌜ ((held : List ℕ) → Holds held line (now (text .entry))
         → Begins (now (out .exit)) (answerTo states (now (rows .entry)) (now (accepting .entry)) (now (names .entry)) held) r) ⌝ }
 {
     let n = line.len;
     let value = line.value;
     if is_number(line) {
-        return answer_number(states, rows, accepting, names, value, out);
+        return answer_number(states, rows, accepting, names, value, tree, out);
     }
     if 4096 < n {
         return put_refusal(refuse(Kind::TextTooLong, 0), out);
     }
-    answer_term(states, rows, accepting, names, &text[..n], out)
+    answer_term(states, rows, accepting, names, &text[..n], tree, out)
 }
 
-// Feeds the bytes from a place on, up to the end of a line or of the bytes. Where a line has ended, puts the output line that answers it.
-pub fn feed_line(
+// Feeds the bytes from a place on, up to the end of a line or of the bytes. Where a line has ended, puts the output line that answers
+// it; `tree` is a list to work in.
+fn feed_line(
+    states: u64,
+    rows: &[u16],
+    accepting: &[u16],
+    names: &[u8],
+    line: Line,
+    bytes: &[u8],
+    from: usize,
+    text: &mut [u8],
+    tree: &mut [u16],
+    out: &mut [u8],
+) -> Fed
+    requires { ⌜ Holding line (now text) ⌝ }
+    requires { ⌜ (from < length (now bytes)) × (length (now tree) ≡ 4096) × (longestLine ≤ length (now out)) ⌝ }
+    ensures { λ r. ⌜ (from < r .next) × (r .next ≤ length (now (bytes .entry))) ⌝ }
+    ensures { λ r. ⌜ ((held : List ℕ) → Holds held line (now (text .entry))
+        → Prints states (now (rows .entry)) (now (accepting .entry)) (now (names .entry)) held
+        (part (now (bytes .entry)) from (r .next)) (r .line) (now (text .exit)) (now (out .exit)) (r .count)) ⌝ }
+{
+    let mut so_far = line;
+    let mut i = from;
+    while i < bytes.len() {
+        let b = bytes[i];
+        if b == b'\n' {
+            let n = answer(states, rows, accepting, names, so_far, &*text, tree, out);
+            return Fed {
+                line: empty_line(),
+                next: i + 1,
+                count: n,
+            };
+        }
+        so_far = feed(so_far, b, &mut *text);
+        i += 1;
+    }
+    Fed {
+        line: so_far,
+        next: i,
+        count: 0,
+    }
+}
+
+// Feeds the bytes from a place on, line after line, to the end of the bytes or until the list may have no room for one answer more; puts what is to
+// be printed, one answer after another.
+pub fn gather(
     states: u64,
     rows: &[u16],
     accepting: &[u16],
@@ -264,25 +314,39 @@ pub fn feed_line(
         → Prints states (now (rows .entry)) (now (accepting .entry)) (now (names .entry)) held
         (part (now (bytes .entry)) from (r .next)) (r .line) (now (text .exit)) (now (out .exit)) (r .count)) ⌝ }
 {
+    let mut tree = [0u16; 4096];
     let mut so_far = line;
     let mut i = from;
+    let mut filled: usize = 0;
     while i < bytes.len() {
-        let b = bytes[i];
-        if b == b'\n' {
-            let n = answer(states, rows, accepting, names, so_far, &*text, out);
+        if out.len() - filled < LONGEST_LINE {
             return Fed {
-                line: empty_line(),
-                next: i + 1,
-                count: n,
+                line: so_far,
+                next: i,
+                count: filled,
             };
         }
-        so_far = feed(so_far, b, &mut *text);
-        i += 1;
+        let fed = feed_line(
+            states,
+            rows,
+            accepting,
+            names,
+            so_far,
+            bytes,
+            i,
+            &mut *text,
+            &mut tree,
+            &mut out[filled..],
+        );
+        let l = fed.line;
+        so_far = l;
+        i = fed.next;
+        filled += fed.count;
     }
     Fed {
         line: so_far,
         next: i,
-        count: 0,
+        count: filled,
     }
 }
 
@@ -306,5 +370,6 @@ pub fn last_line(
     if n == 0 {
         return 0;
     }
-    answer(states, rows, accepting, names, line, text, out)
+    let mut tree = [0u16; 4096];
+    answer(states, rows, accepting, names, line, text, &mut tree, out)
 }
