@@ -1,15 +1,19 @@
 // The program treenum: reads lines from standard input and prints one line for each. A line of digits is a number, answered by
 // its term; any other line is a term, answered by its number. The table is the source paper's.
-use libc::STDIN_FILENO;
-use libc::STDOUT_FILENO;
+//
+// Answers are gathered, and written when the list may have no room for one more, and before each read. All reading and writing is by the crate
+// `streams`; this crate stands on no other that can read or write.
 use line::Fed;
 use line::Line;
 use line::empty_line;
+use streams::Got;
 ghost use mathlib.Core.List.{List};
 ghost use Prim.Native.Nat.{ℕ, _<_, _≤_};
 ghost use lib.ListN.{length};
-ghost use Rattle.line.specs.Held.{longestLine, Holds, Holding, Begins, part, heldAfter};
+ghost use Rattle.line.specs.Held.{longestLine, Holds, Holding, Begins, part};
+ghost use Rattle.streams.specs.Parts.{Wrote};
 ghost use Rattle.treenum.specs.Treenum.{printedFor, PrintsLine};
+ghost use Rattle.treenum.specs.Run.{Feeds, Turned, Ran};
 
 // The rows of Figure 3, the accepting list, and the names of the symbols 1 and 2.
 const STATES: u64 = 5;
@@ -63,15 +67,35 @@ const ACCEPTING: [u16; 2] = [2, 4];
 
 const NAMES: [u8; 4] = [b'a', b'\n', b'b', b'\n'];
 
-// Feeds the bytes from a place on, to the end of a line or of the bytes; puts what is to be printed.
-fn feed_line(line: Line, bytes: &[u8], from: usize, text: &mut [u8], out: &mut [u8]) -> Fed
+// The line so far, or a write failed.
+enum Put {
+    Kept(Line),
+    Broken,
+}
+
+// How a run ends: the input has ended and all is answered; a read failed; a write failed; or there were more reads than can be counted.
+enum Ending {
+    Done,
+    ReadFailed,
+    WriteFailed,
+    TooManyReads,
+}
+
+// After a read: the input goes on, or the run ends.
+enum Turn {
+    On(Line),
+    Stop(Ending),
+}
+
+// Feeds the bytes from a place on, to the end of the bytes or until the list may have no room for one answer more; puts what is to be printed.
+fn gather(line: Line, bytes: &[u8], from: usize, text: &mut [u8], out: &mut [u8]) -> Fed
     requires { ⌜ Holding line (now text) ⌝ }
     requires { ⌜ (from < length (now bytes)) × (longestLine ≤ length (now out)) ⌝ }
     ensures { λ r. ⌜ (from < r .next) × (r .next ≤ length (now (bytes .entry))) ⌝ }
     ensures { λ r. ⌜ ((held : List ℕ) → Holds held line (now (text .entry))
         → PrintsLine held (part (now (bytes .entry)) from (r .next)) (r .line) (now (text .exit)) (now (out .exit)) (r .count)) ⌝ }
 {
-    line::feed_line(
+    line::gather(
         STATES,
         &ROWS,
         &ACCEPTING,
@@ -93,50 +117,96 @@ fn last_line(line: Line, text: &[u8], out: &mut [u8]) -> usize
     line::last_line(STATES, &ROWS, &ACCEPTING, &NAMES, line, text, out)
 }
 
-// Prints what is to be printed where the input ends.
-fn finish(line: Line, text: &[u8], out: &mut [u8])
+// Feeds the bytes of a read, and writes what is to be printed.
+fn feed_all(line: Line, bytes: &[u8], text: &mut [u8], out: &mut [u8], log: &mut u64) -> Put
     requires { ⌜ Holding line (now text) ⌝ }
     requires { ⌜ longestLine ≤ length (now out) ⌝ }
-{
-    let n = last_line(line, text, &mut *out);
-    io::write_all(STDOUT_FILENO, &out[..n]);
-}
-
-// Feeds the bytes of a read, and prints.
-fn feed_all(line: Line, bytes: &[u8], text: &mut [u8], out: &mut [u8]) -> Line
-    requires { ⌜ Holding line (now text) ⌝ }
-    requires { ⌜ longestLine ≤ length (now out) ⌝ }
-    ensures { λ r. ⌜ ((held : List ℕ) → Holds held line (now (text .entry)) → Holds (heldAfter held (now (bytes .entry))) r (now (text .exit))) ⌝ }
+    ensures { λ r. ⌜ ((held : List ℕ) → Holds held line (now (text .entry))
+        → Feeds held (now (bytes .entry)) r (now (text .exit)) (now (log .entry)) (now (log .exit))) ⌝ }
 {
     let mut so_far = line;
     let mut i: usize = 0;
     while i < bytes.len() {
-        let fed = feed_line(so_far, bytes, i, &mut *text, &mut *out);
+        let fed = gather(so_far, bytes, i, &mut *text, &mut *out);
         let n = fed.count;
-        io::write_all(STDOUT_FILENO, &out[..n]);
+        if !streams::write_part(&mut *log, &out[..n]) {
+            return Put::Broken;
+        }
         let l = fed.line;
         so_far = l;
         i = fed.next;
     }
-    so_far
+    Put::Kept(so_far)
 }
 
-// Reads the input to its end, and prints. No contract says which bytes a read gives, or where a write's bytes go: that each byte that is read
-// is handed on once and in order, and that each part is written once and in order, is to be read here, in `feed_all` and in `finish`.
-fn main() {
-    let mut chunk = [0u8; 4096];
+// Writes what is to be printed where the input ends.
+fn finish(line: Line, text: &[u8], out: &mut [u8], log: &mut u64) -> bool
+    requires { ⌜ Holding line (now text) ⌝ }
+    requires { ⌜ longestLine ≤ length (now out) ⌝ }
+    ensures { λ r. ⌜ ((held : List ℕ) → Holds held line (now (text .entry)) → Wrote (now (log .entry)) (now (log .exit)) (printedFor held) r) ⌝ }
+{
+    let n = last_line(line, text, &mut *out);
+    streams::write_part(log, &out[..n])
+}
+
+// One read: its bytes are fed and what is to be printed is written, or the run ends.
+fn take_turn(line: Line, chunk: &mut [u8], text: &mut [u8], out: &mut [u8], log: &mut u64) -> Turn
+    requires { ⌜ Holding line (now text) ⌝ }
+    requires { ⌜ (0 < length (now chunk)) × (longestLine ≤ length (now out)) ⌝ }
+    ensures { λ r. ⌜ ((reads : ℕ) (held : List ℕ) → Holds held line (now (text .entry))
+        → Turned reads held r (now (text .exit)) (now (log .entry)) (now (log .exit))) ⌝ }
+{
+    match streams::read_part(&mut *log, &mut *chunk) {
+        Got::Bytes(n) => match feed_all(line, &chunk[..n], text, out, log) {
+            Put::Kept(l) => Turn::On(l),
+            Put::Broken => Turn::Stop(Ending::WriteFailed),
+        },
+        Got::End => {
+            if finish(line, &*text, out, log) {
+                Turn::Stop(Ending::Done)
+            } else {
+                Turn::Stop(Ending::WriteFailed)
+            }
+        }
+        Got::Failed => Turn::Stop(Ending::ReadFailed),
+    }
+}
+
+// The whole run: reads the input to its end and writes what is to be printed for it, unless a read or a write fails; says how it ended.
+fn run(log: &mut u64) -> Ending
+    ensures { λ r. ⌜ Ran r (now (log .entry)) (now (log .exit)) ⌝ }
+{
+    let mut chunk = [0u8; 65536];
     let mut text = [0u8; 4096];
-    let mut out = [0u8; 53249];
+    let mut out = [0u8; 118785];
     let mut line = empty_line();
     let mut turns = u64::MAX;
     while turns > 0 {
-        let got = libc::read(STDIN_FILENO, &mut chunk);
-        if got <= 0 {
-            finish(line, &text, &mut out);
-            return;
+        match take_turn(line, &mut chunk, &mut text, &mut out, &mut *log) {
+            Turn::On(l) => {
+                line = l;
+            }
+            Turn::Stop(ending) => {
+                return ending;
+            }
         }
-        let n = io::count(got, &chunk);
-        line = feed_all(line, &chunk[..n], &mut text, &mut out);
         turns -= 1;
+    }
+    Ending::TooManyReads
+}
+
+fn main() {
+    let mut log: u64 = 0;
+    match run(&mut log) {
+        Ending::Done => {}
+        Ending::ReadFailed => {
+            streams::say_failed(b"treenum: cannot read");
+        }
+        Ending::WriteFailed => {
+            streams::say_failed(b"treenum: cannot write");
+        }
+        Ending::TooManyReads => {
+            streams::say(b"treenum: the input has not ended\n");
+        }
     }
 }
