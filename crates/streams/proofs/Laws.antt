@@ -1,12 +1,13 @@
 -- Logs, one after another. Assumes nothing.
 use Prim.Native.Nat.{ℕ, zero, suc, _+_, _<_, _≤_}
 use mathlib.Core.Path.{_≡_, refl, sym, ap, _∙_}
+use mathlib.Core.Bool.{true}
 use mathlib.Core.List.{List, [], _∷_, _++_, map, foldl, foldl-append}
 use native.Mathlib.Numerals.{add-one}
 use native.Mathlib.Omega.{arith}
 use lib.ListN.{length, getD, take, drop, drop-of-length-le}
 use lib.Seq.{drop-cons}
-use Rattle.streams.specs.Log.{Entry, byteRead, byteWritten, readReturned, endOfInput, readFailed, writeFailed, readIn, writtenIn, entryNumber, withNumber, withEntry, digestAfter, Logged}
+use Rattle.streams.specs.Log.{Entry, byteRead, byteWritten, readReturned, endOfInput, readFailed, writeFailed, readIn, writtenIn, noneFailed, entryNumber, withNumber, withEntry, digestAfter, Logged}
 use Rattle.streams.specs.Parts.{OfBytes, oneRead, writes}
 
 -- nothing came
@@ -100,3 +101,25 @@ pub written-writes : (bytes : List ℕ) → writtenIn (writes bytes) ≡ bytes
 unfolding writtenIn
 written-writes [] = refl
 written-writes (b ∷ bs) = ap (λ (l : List ℕ). b ∷ l) (written-writes bs)
+
+-- ---- no failure
+
+pub none-both : (xs ys : List Entry) → noneFailed xs ≡ true → noneFailed ys ≡ true → noneFailed (xs ++ ys) ≡ true
+unfolding noneFailed
+none-both [] ys e f = f
+none-both (readFailed ∷ xs) ys e f = e
+none-both (writeFailed ∷ xs) ys e f = e
+none-both (byteRead b ∷ xs) ys e f = none-both xs ys e f
+none-both (byteWritten b ∷ xs) ys e f = none-both xs ys e f
+none-both (readReturned ∷ xs) ys e f = none-both xs ys e f
+none-both (endOfInput ∷ xs) ys e f = none-both xs ys e f
+
+pub none-read : (bytes : List ℕ) → noneFailed (oneRead bytes) ≡ true
+unfolding noneFailed
+none-read [] = refl
+none-read (b ∷ bs) = none-read bs
+
+pub none-writes : (bytes : List ℕ) → noneFailed (writes bytes) ≡ true
+unfolding noneFailed
+none-writes [] = refl
+none-writes (b ∷ bs) = none-writes bs

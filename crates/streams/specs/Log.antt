@@ -2,14 +2,15 @@
 -- definitions.
 use Prim.Native.Nat.{ℕ, _+_, _*_, _%_}
 use mathlib.Core.Path.{_≡_}
+use mathlib.Core.Bool.{Bool, true, false}
 use mathlib.Core.List.{List, [], _∷_, foldl}
 
 pub data Entry : Type 0 where
   -- a byte was read; a byte was handed to a write
   byteRead byteWritten : ℕ → Entry
-  -- a read returned, with the bytes that stand before this; a read found the end of the input; a read failed
+  -- a read returned, with the bytes before this; one gave no bytes, which is the end of the input; one failed
   readReturned endOfInput readFailed : Entry
-  -- the write failed to which the bytes before this were handed: any number of them may have been taken
+  -- the last write failed: the bytes that were handed to it are the last before this, and any number of them may have been taken
   writeFailed : Entry
 
 -- the bytes that were read, and those that were handed to writes
@@ -31,7 +32,17 @@ writtenIn (endOfInput ∷ es) = writtenIn es
 writtenIn (readFailed ∷ es) = writtenIn es
 writtenIn (writeFailed ∷ es) = writtenIn es
 
--- a number for each entry: of bytes, which are below 256, no two entries have the same
+-- no read and no write failed
+unfoldable pub noneFailed : List Entry → Bool
+noneFailed [] = true
+noneFailed (readFailed ∷ es) = false
+noneFailed (writeFailed ∷ es) = false
+noneFailed (byteRead b ∷ es) = noneFailed es
+noneFailed (byteWritten b ∷ es) = noneFailed es
+noneFailed (readReturned ∷ es) = noneFailed es
+noneFailed (endOfInput ∷ es) = noneFailed es
+
+-- a number for each entry: while bytes are below 256, no two entries have the same
 abbrev pub entryNumber : Entry → ℕ
 entryNumber (byteRead b) = 0 + b
 entryNumber (byteWritten b) = 256 + b

@@ -1,15 +1,17 @@
 -- What a run read and wrote, by its log. Assumes nothing.
 use Prim.Native.Nat.{ℕ}
 use mathlib.Core.Path.{_≡_, refl, sym, ap, _∙_}
+use mathlib.Core.Bool.{true}
 use mathlib.Core.List.{List, [], _∷_, _++_, flatten, append-nil, append-assoc}
+use native.Mathlib.Omega.{arith}
 use Rattle.model.specs.Paper.{paperStates, paperRows, paperAccepting, paperNames}
 use Rattle.line.specs.Held.{heldAfter, putFor}
 use Rattle.line.proofs.Output.{open-none, output-put, put-more}
-use Rattle.streams.specs.Log.{Entry, endOfInput, readFailed, writeFailed, readIn, writtenIn}
-use Rattle.streams.specs.Parts.{oneRead, writes}
-use Rattle.streams.proofs.Laws.{read-both, written-both, read-read, written-read, read-writes, written-writes}
+use Rattle.streams.specs.Log.{Entry, endOfInput, readFailed, writeFailed, readIn, writtenIn, noneFailed}
+use Rattle.streams.specs.Parts.{OfBytes, oneRead, writes}
+use Rattle.streams.proofs.Laws.{bytes-both, none-both, none-read, none-writes, read-both, written-both, read-read, written-read, read-writes, written-writes}
 use Rattle.treenum.specs.Treenum.{printedFor, putAfter}
-use Rattle.treenum.specs.Run.{logOf, atEnd, FailsToWrite, after-read, at-end, IsRun, Answered, NothingElse}
+use Rattle.treenum.specs.Run.{logOf, Parts, atEnd, FailsToWrite, after-read, at-end, IsRun, Answered, NothingElse}
 use Rattle.treenum.specs.declared.Ending.{Ending}
 use Rattle.treenum.specs.declared.Ending.the-variants.{Done, ReadFailed, WriteFailed, TooManyReads}
 
@@ -74,15 +76,41 @@ passed-all parts =
     rw (printed-all (flatten parts))
     (rw (append-nil (flatten parts)) at (passed-both (passed-log [] parts) (passed-end (heldAfter [] (flatten parts)))))
 
+parts-bytes : (parts : List (List ℕ)) → Parts parts → OfBytes (flatten parts)
+unfolding Parts flatten
+parts-bytes [] a = λ i. omega arith
+parts-bytes (p ∷ parts) a = bytes-both p (flatten parts) (a .0 .1) (parts-bytes parts (a .1))
+
+none-found : noneFailed (endOfInput ∷ []) ≡ true
+unfolding noneFailed
+none-found = refl
+
+none-log : (held : List ℕ) (parts : List (List ℕ)) → noneFailed (logOf held parts) ≡ true
+unfolding logOf noneFailed
+none-log held [] = refl
+none-log held (p ∷ parts) =
+    none-both
+    (oneRead p ++ writes (putAfter held p))
+    (logOf (heldAfter held p) parts)
+    (none-both (oneRead p) (writes (putAfter held p)) (none-read p) (none-writes (putAfter held p)))
+    (none-log (heldAfter held p) parts)
+
 pub answered : (log : List Entry) → IsRun Done log → Answered log
 answered log r =
     let e : log ≡ logOf [] (r .parts) ++ atEnd (heldAfter [] (flatten (r .parts))) = r .whole ∙ ap (λ (l : List Entry). logOf [] (r .parts) ++ l) (r .ends) in
     let p : Passed log (flatten (r .parts)) (printedFor (flatten (r .parts))) = rw e (passed-all (r .parts)) in
     record {
-      of-bytes = rw (p .read-in) (r .of-bytes);
+      of-bytes = rw (p .read-in) (parts-bytes (r .parts) (r .of-parts));
       earlier = logOf [] (r .parts);
       last = printedFor (heldAfter [] (flatten (r .parts)));
       to-end = e;
+      none-failed =
+          rw e
+          (none-both
+          (logOf [] (r .parts))
+          (atEnd (heldAfter [] (flatten (r .parts))))
+          (none-log [] (r .parts))
+          (none-both (endOfInput ∷ []) (writes (printedFor (heldAfter [] (flatten (r .parts))))) none-found (none-writes (printedFor (heldAfter [] (flatten (r .parts)))))));
       written = p .written-in ∙ ap printedFor (sym (p .read-in));
     }
 

@@ -5,7 +5,7 @@ use mathlib.Core.Bool.{Bool, true, false}
 use mathlib.Core.List.{List, [], _∷_, _++_, flatten, map-append, append-nil, append-assoc}
 use native.Mathlib.Omega.{arith}
 use lib.ListN.{length, take, drop, length-append, take-append-drop}
-use lib.Seq.{take-add, take-all}
+use lib.Seq.{length-take-le, take-add, take-all}
 use Rattle.model.specs.Paper.{paperStates, paperRows, paperAccepting, paperNames}
 use Rattle.line.specs.Held.{Holds, Holding, Begins, part, heldAfter, putFor}
 use Rattle.line.specs.declared.Line.{Line}
@@ -14,9 +14,9 @@ use Rattle.streams.specs.Log.{Entry, byteWritten, endOfInput, readFailed, write
 use Rattle.streams.specs.Parts.{OfBytes, oneRead, writes, Took, Wrote}
 use Rattle.streams.specs.declared.Got.{Got}
 use Rattle.streams.specs.declared.Got.the-variants.{Bytes, End, Failed}
-use Rattle.streams.proofs.Laws.{logged-none, logged-both, bytes-both}
+use Rattle.streams.proofs.Laws.{logged-none, logged-both}
 use Rattle.treenum.specs.Treenum.{printedFor, putAfter, PrintsLine}
-use Rattle.treenum.specs.Run.{logOf, atEnd, after-read, at-end, Breaks, Feeds, TakesPart, Stops, Turned, Ran}
+use Rattle.treenum.specs.Run.{logOf, Parts, atEnd, after-read, at-end, Breaks, Feeds, TakesPart, Stops, Turned, Ran}
 use Rattle.treenum.specs.declared.Put.{Put}
 use Rattle.treenum.specs.declared.Put.the-variants.{Kept, Broken}
 use Rattle.treenum.specs.declared.Turn.{Turn}
@@ -100,7 +100,7 @@ module _ (before between : ℕ) (chunk : List ℕ) (got : Got) (t : Took before 
     turned-on line g =
         let u : Took before between chunk (Bytes n) = rw e at t in
         let v : Feeds held (take n chunk) (Kept line) text between after = rw g at f in
-        record { bytes = take n chunk; of-bytes = u .2; holds = v .0; logged = logged-both before (oneRead (take n chunk)) (writes (putAfter held (take n chunk))) (u .3) (v .1) }
+        record { bytes = take n chunk; of-part = (rw (length-take-le n chunk (u .1)) (u .0), u .2); holds = v .0; logged = logged-both before (oneRead (take n chunk)) (writes (putAfter held (take n chunk))) (u .3) (v .1) }
 
     pub turned-broke : (reads : ℕ) → put ≡ Broken → Stops reads held WriteFailed before after
     turned-broke reads g =
@@ -141,20 +141,25 @@ module _ (before between : ℕ) (chunk : List ℕ) (got : Got) (t : Took before 
 -- the input came so far in some parts, each of which is answered; the line and the text hold what is held after them
 pub record SoFar (before : ℕ) (line : Line) (text : List ℕ) (log turns : ℕ) : Type 0 where
   pub parts : List (List ℕ)
-  pub of-bytes : OfBytes (flatten parts)
+  pub of-parts : Parts parts
   pub holds : Holds (heldAfter [] (flatten parts)) line text
   pub logged : Logged before log (logOf [] parts)
   pub counted : length parts + turns ≡ 18446744073709551615
 
 pub so-far-first : (line : Line) (text : List ℕ) (log : ℕ) → Holds [] line text → SoFar log line text log 18446744073709551615
-unfolding heldAfter flatten logOf
-so-far-first line text log h = record { parts = []; of-bytes = λ i. omega arith; holds = h; logged = logged-none log; counted = refl }
+unfolding Parts heldAfter flatten logOf
+so-far-first line text log h = record { parts = []; of-parts = _; holds = h; logged = logged-none log; counted = refl }
 
 -- one part more
 flatten-more : (parts : List (List ℕ)) (p : List ℕ) → flatten (parts ++ p ∷ []) ≡ flatten parts ++ p
 unfolding flatten
 flatten-more [] p = append-nil p
 flatten-more (q ∷ parts) p = ap (λ (l : List ℕ). q ++ l) (flatten-more parts p) ∙ sym (append-assoc q (flatten parts) p)
+
+parts-more : (parts : List (List ℕ)) (p : List ℕ) → Parts parts → (0 < length p) × OfBytes p → Parts (parts ++ p ∷ [])
+unfolding Parts
+parts-more [] p a b = (b, _)
+parts-more (q ∷ parts) p a b = (a .0, parts-more parts p (a .1) b)
 
 log-more : (held : List ℕ) (parts : List (List ℕ)) (p : List ℕ)
     → logOf held (parts ++ p ∷ []) ≡ logOf held parts ++ (oneRead p ++ writes (putAfter (heldAfter held (flatten parts)) p))
@@ -175,7 +180,7 @@ module _ {before : ℕ} {line : Line} {text : List ℕ} {log turns : ℕ} (s : S
         let t : Turned 0 (heldAfter [] (flatten (s .parts))) (On l) text′ log log′ = rw e at (f 0 (heldAfter [] (flatten (s .parts))) (s .holds)) in
         record {
           parts = s .parts ++ t .bytes ∷ [];
-          of-bytes = rw (flatten-more (s .parts) (t .bytes)) (bytes-both (flatten (s .parts)) (t .bytes) (s .of-bytes) (t .of-bytes));
+          of-parts = parts-more (s .parts) (t .bytes) (s .of-parts) (t .of-part);
           holds = rw (flatten-more (s .parts) (t .bytes), held-more [] (flatten (s .parts)) (t .bytes)) (t .holds);
           logged = rw (log-more [] (s .parts) (t .bytes)) (logged-both before (logOf [] (s .parts)) (oneRead (t .bytes) ++ writes (putAfter (heldAfter [] (flatten (s .parts))) (t .bytes))) (s .logged) (t .logged));
           counted = let k : length (s .parts ++ t .bytes ∷ []) ≡ length (s .parts) + 1 = length-append (s .parts) (t .bytes ∷ []) in omega (arith, k, s .counted);
@@ -186,7 +191,7 @@ module _ {before : ℕ} {line : Line} {text : List ℕ} {log turns : ℕ} (s : S
         let t : Turned (length (s .parts)) (heldAfter [] (flatten (s .parts))) (Stop ending) text′ log log′ = rw e at (f (length (s .parts)) (heldAfter [] (flatten (s .parts))) (s .holds)) in
         record {
           log = logOf [] (s .parts) ++ t .tail;
-          is-run = record { parts = s .parts; of-bytes = s .of-bytes; tail = t .tail; whole = refl; ends = t .ends };
+          is-run = record { parts = s .parts; of-parts = s .of-parts; tail = t .tail; whole = refl; ends = t .ends };
           logged = logged-both before (logOf [] (s .parts)) (t .tail) (s .logged) (t .logged);
         }
 
@@ -194,6 +199,6 @@ module _ {before : ℕ} {line : Line} {text : List ℕ} {log turns : ℕ} (s : S
   pub so-far-last : turns ≡ 0 → Ran TooManyReads before log
   so-far-last e = record {
     log = logOf [] (s .parts);
-    is-run = record { parts = s .parts; of-bytes = s .of-bytes; tail = []; whole = sym (append-nil (logOf [] (s .parts))); ends = (omega (arith, s .counted, e), refl) };
+    is-run = record { parts = s .parts; of-parts = s .of-parts; tail = []; whole = sym (append-nil (logOf [] (s .parts))); ends = (omega (arith, s .counted, e), refl) };
     logged = s .logged;
   }

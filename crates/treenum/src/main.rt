@@ -176,9 +176,9 @@ fn take_turn(line: Line, chunk: &mut [u8], text: &mut [u8], out: &mut [u8], log:
 fn run(log: &mut u64) -> Ending
     ensures { λ r. ⌜ Ran r (now (log .entry)) (now (log .exit)) ⌝ }
 {
-    let mut chunk = [0u8; 65536];
+    let mut chunk = [0u8; 16384];
     let mut text = [0u8; 4096];
-    let mut out = [0u8; 118785];
+    let mut out = [0u8; 69633];
     let mut line = empty_line();
     let mut turns = u64::MAX;
     while turns > 0 {

@@ -7,13 +7,13 @@ use Rattle.treenum.proofs.run.Statement.{statement}
 use Rattle.treenum.proofs.run.Tie as tie
 
 abbrev Inv-loop : tie.InvT-loop
-Inv-loop log₀ chunk₀ text₀ out₀ line₀ turns₀ log chunk text out line turns = SoFar log₀ line text log turns × (length chunk ≡ 65536) × (length text ≡ 4096) × (length out ≡ 118785)
+Inv-loop log₀ chunk₀ text₀ out₀ line₀ turns₀ log chunk text out line turns = SoFar log₀ line text log turns × (length chunk ≡ 16384) × (length text ≡ 4096) × (length out ≡ 69633)
 
 abbrev μ-loop : tie.MeasureT-loop
 μ-loop log₀ chunk₀ text₀ out₀ line₀ turns₀ log chunk text out line turns = turns
 
 loop-holds : tie.Need-loop-holds Inv-loop μ-loop
-loop-holds c = (so-far-first _ _ _ (c .empty-line .ensures _ (length-replicate {A = ℕ} 4096 0)), length-replicate {A = ℕ} 65536 0, length-replicate {A = ℕ} 4096 0, length-replicate {A = ℕ} 118785 0)
+loop-holds c = (so-far-first _ _ _ (c .empty-line .ensures _ (length-replicate {A = ℕ} 4096 0)), length-replicate {A = ℕ} 16384 0, length-replicate {A = ℕ} 4096 0, length-replicate {A = ℕ} 69633 0)
 
 take-turn-requires : tie.Need-take-turn-requires Inv-loop μ-loop
 take-turn-requires c κs = (so-far-holding (c .before .before .before .before .before .loop .inv .0), (search needs, search needs))
