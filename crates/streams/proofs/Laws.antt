@@ -1,13 +1,12 @@
 -- Logs, one after another. Assumes nothing.
 use Prim.Native.Nat.{ℕ, zero, suc, _+_, _<_, _≤_}
 use mathlib.Core.Path.{_≡_, refl, sym, ap, _∙_}
-use mathlib.Core.Bool.{true}
-use mathlib.Core.List.{List, [], _∷_, _++_, map, foldl, foldl-append}
+use mathlib.Core.List.{List, [], _∷_, _++_, map, flatMap, foldl, foldl-append, append-nil, append-assoc}
 use native.Mathlib.Numerals.{add-one}
 use native.Mathlib.Omega.{arith}
 use lib.ListN.{length, getD, take, drop, drop-of-length-le}
 use lib.Seq.{drop-cons}
-use Rattle.streams.specs.Log.{Entry, byteRead, byteWritten, readReturned, endOfInput, readFailed, writeFailed, readIn, writtenIn, noneFailed, entryNumber, withNumber, withEntry, digestAfter, Logged}
+use Rattle.streams.specs.Log.{Entry, byteRead, byteWritten, readReturned, adds, readIn, writtenIn, failuresIn, entryNumber, withNumber, withEntry, digestAfter, Logged}
 use Rattle.streams.specs.Parts.{OfBytes, oneRead, writes}
 
 -- nothing came
@@ -58,68 +57,61 @@ bytes-both [] ys f g i = g i
 bytes-both (x ∷ xs) ys f g zero = f 0
 bytes-both (x ∷ xs) ys f g (suc i) = bytes-both xs ys (λ j. f (suc j)) g i
 
--- ---- what was read and what was written
+-- ---- what was read, what was handed to writes, and what failed
 
-pub read-both : (xs ys : List Entry) → readIn (xs ++ ys) ≡ readIn xs ++ readIn ys
-unfolding readIn
-read-both [] ys = refl
-read-both (byteRead b ∷ xs) ys = ap (λ (l : List ℕ). b ∷ l) (read-both xs ys)
-read-both (byteWritten b ∷ xs) ys = read-both xs ys
-read-both (readReturned ∷ xs) ys = read-both xs ys
-read-both (endOfInput ∷ xs) ys = read-both xs ys
-read-both (readFailed ∷ xs) ys = read-both xs ys
-read-both (writeFailed ∷ xs) ys = read-both xs ys
+each-both : {A : Type 0} (f : Entry → List A) (xs ys : List Entry) → flatMap f (xs ++ ys) ≡ flatMap f xs ++ flatMap f ys
+unfolding flatMap
+each-both f [] ys = refl
+each-both f (x ∷ xs) ys = ap (λ (l : List _). f x ++ l) (each-both f xs ys) ∙ sym (append-assoc (f x) (flatMap f xs) (flatMap f ys))
 
-pub written-both : (xs ys : List Entry) → writtenIn (xs ++ ys) ≡ writtenIn xs ++ writtenIn ys
-unfolding writtenIn
-written-both [] ys = refl
-written-both (byteWritten b ∷ xs) ys = ap (λ (l : List ℕ). b ∷ l) (written-both xs ys)
-written-both (byteRead b ∷ xs) ys = written-both xs ys
-written-both (readReturned ∷ xs) ys = written-both xs ys
-written-both (endOfInput ∷ xs) ys = written-both xs ys
-written-both (readFailed ∷ xs) ys = written-both xs ys
-written-both (writeFailed ∷ xs) ys = written-both xs ys
+-- of bytes none of which adds something, or each of which adds itself
+each-none : {A : Type 0} (f : Entry → List A) (entry : ℕ → Entry) → ((b : ℕ) → f (entry b) ≡ []) → (bytes : List ℕ) → flatMap f (map entry bytes) ≡ []
+unfolding flatMap
+each-none f entry e [] = refl
+each-none f entry e (b ∷ bytes) = rw (e b) (each-none f entry e bytes)
 
--- of one read
-pub read-read : (bytes : List ℕ) → readIn (oneRead bytes) ≡ bytes
-unfolding readIn
-read-read [] = refl
-read-read (b ∷ bs) = ap (λ (l : List ℕ). b ∷ l) (read-read bs)
+each-all : (f : Entry → List ℕ) (entry : ℕ → Entry) → ((b : ℕ) → f (entry b) ≡ b ∷ []) → (bytes : List ℕ) → flatMap f (map entry bytes) ≡ bytes
+unfolding flatMap
+each-all f entry e [] = refl
+each-all f entry e (b ∷ bytes) = rw (e b) (ap (λ (l : List ℕ). b ∷ l) (each-all f entry e bytes))
 
-pub written-read : (bytes : List ℕ) → writtenIn (oneRead bytes) ≡ []
-unfolding writtenIn
-written-read [] = refl
-written-read (b ∷ bs) = written-read bs
+pub record Passed (log : List Entry) (input output : List ℕ) (failures : List Entry) : Type 0 where
+  pub read : readIn log ≡ input
+  pub written : writtenIn log ≡ output
+  pub failed : failuresIn log ≡ failures
 
--- of bytes that are written
-pub read-writes : (bytes : List ℕ) → readIn (writes bytes) ≡ []
-unfolding readIn
-read-writes [] = refl
-read-writes (b ∷ bs) = read-writes bs
+both : {A : Type 0} (f : Entry → List A) (xs ys : List Entry) {a b : List A} → flatMap f xs ≡ a → flatMap f ys ≡ b → flatMap f (xs ++ ys) ≡ a ++ b
+both f xs ys e g = each-both f xs ys ∙ rw (e, g) refl
 
-pub written-writes : (bytes : List ℕ) → writtenIn (writes bytes) ≡ bytes
-unfolding writtenIn
-written-writes [] = refl
-written-writes (b ∷ bs) = ap (λ (l : List ℕ). b ∷ l) (written-writes bs)
+pub passed-both : {xs ys : List Entry} {a b s t : List ℕ} {k l : List Entry} → Passed xs a s k → Passed ys b t l → Passed (xs ++ ys) (a ++ b) (s ++ t) (k ++ l)
+passed-both {xs} {ys} p q = record {
+  read = both (λ e. adds e .0) xs ys (p .read) (q .read);
+  written = both (λ e. adds e .1) xs ys (p .written) (q .written);
+  failed = both (λ e. adds e .2) xs ys (p .failed) (q .failed);
+}
 
--- ---- no failure
+pub passed-none : Passed [] [] [] []
+unfolding flatMap
+passed-none = record { read = refl; written = refl; failed = refl }
 
-pub none-both : (xs ys : List Entry) → noneFailed xs ≡ true → noneFailed ys ≡ true → noneFailed (xs ++ ys) ≡ true
-unfolding noneFailed
-none-both [] ys e f = f
-none-both (readFailed ∷ xs) ys e f = e
-none-both (writeFailed ∷ xs) ys e f = e
-none-both (byteRead b ∷ xs) ys e f = none-both xs ys e f
-none-both (byteWritten b ∷ xs) ys e f = none-both xs ys e f
-none-both (readReturned ∷ xs) ys e f = none-both xs ys e f
-none-both (endOfInput ∷ xs) ys e f = none-both xs ys e f
+pub passed-one : (e : Entry) → Passed (e ∷ []) (adds e .0) (adds e .1) (adds e .2)
+unfolding flatMap
+passed-one e = record { read = append-nil (adds e .0); written = append-nil (adds e .1); failed = append-nil (adds e .2) }
 
-pub none-read : (bytes : List ℕ) → noneFailed (oneRead bytes) ≡ true
-unfolding noneFailed
-none-read [] = refl
-none-read (b ∷ bs) = none-read bs
+pub passed-writes : (bytes : List ℕ) → Passed (writes bytes) [] bytes []
+passed-writes bytes = record {
+  read = each-none (λ e. adds e .0) byteWritten (λ b. refl) bytes;
+  written = each-all (λ e. adds e .1) byteWritten (λ b. refl) bytes;
+  failed = each-none (λ e. adds e .2) byteWritten (λ b. refl) bytes;
+}
 
-pub none-writes : (bytes : List ℕ) → noneFailed (writes bytes) ≡ true
-unfolding noneFailed
-none-writes [] = refl
-none-writes (b ∷ bs) = none-writes bs
+pub passed-read : (bytes : List ℕ) → Passed (oneRead bytes) bytes [] []
+passed-read bytes =
+    rw (append-nil bytes) at
+    (passed-both
+    (record {
+      read = each-all (λ e. adds e .0) byteRead (λ b. refl) bytes;
+      written = each-none (λ e. adds e .1) byteRead (λ b. refl) bytes;
+      failed = each-none (λ e. adds e .2) byteRead (λ b. refl) bytes;
+    })
+    (passed-one readReturned))

@@ -2,8 +2,7 @@
 -- definitions.
 use Prim.Native.Nat.{ℕ, _+_, _*_, _%_}
 use mathlib.Core.Path.{_≡_}
-use mathlib.Core.Bool.{Bool, true, false}
-use mathlib.Core.List.{List, [], _∷_, foldl}
+use mathlib.Core.List.{List, [], _∷_, flatMap, foldl}
 
 pub data Entry : Type 0 where
   -- a byte was read; a byte was handed to a write
@@ -13,34 +12,24 @@ pub data Entry : Type 0 where
   -- the last write failed: the bytes that were handed to it are the last before this, and any number of them may have been taken
   writeFailed : Entry
 
--- the bytes that were read, and those that were handed to writes
-unfoldable pub readIn : List Entry → List ℕ
-readIn [] = []
-readIn (byteRead b ∷ es) = b ∷ readIn es
-readIn (byteWritten b ∷ es) = readIn es
-readIn (readReturned ∷ es) = readIn es
-readIn (endOfInput ∷ es) = readIn es
-readIn (readFailed ∷ es) = readIn es
-readIn (writeFailed ∷ es) = readIn es
+-- what an entry adds to the bytes that were read, to those that were handed to writes, and to the failures
+abbrev pub adds : Entry → List ℕ × List ℕ × List Entry
+adds (byteRead b) = (b ∷ [], [], [])
+adds (byteWritten b) = ([], b ∷ [], [])
+adds readReturned = ([], [], [])
+adds endOfInput = ([], [], [])
+adds readFailed = ([], [], readFailed ∷ [])
+adds writeFailed = ([], [], writeFailed ∷ [])
 
-unfoldable pub writtenIn : List Entry → List ℕ
-writtenIn [] = []
-writtenIn (byteWritten b ∷ es) = b ∷ writtenIn es
-writtenIn (byteRead b ∷ es) = writtenIn es
-writtenIn (readReturned ∷ es) = writtenIn es
-writtenIn (endOfInput ∷ es) = writtenIn es
-writtenIn (readFailed ∷ es) = writtenIn es
-writtenIn (writeFailed ∷ es) = writtenIn es
+-- of a log: the bytes that were read, the bytes that were handed to writes, the failures
+abbrev pub readIn : List Entry → List ℕ
+readIn log = flatMap (λ e. adds e .0) log
 
--- no read and no write failed
-unfoldable pub noneFailed : List Entry → Bool
-noneFailed [] = true
-noneFailed (readFailed ∷ es) = false
-noneFailed (writeFailed ∷ es) = false
-noneFailed (byteRead b ∷ es) = noneFailed es
-noneFailed (byteWritten b ∷ es) = noneFailed es
-noneFailed (readReturned ∷ es) = noneFailed es
-noneFailed (endOfInput ∷ es) = noneFailed es
+abbrev pub writtenIn : List Entry → List ℕ
+writtenIn log = flatMap (λ e. adds e .1) log
+
+abbrev pub failuresIn : List Entry → List Entry
+failuresIn log = flatMap (λ e. adds e .2) log
 
 -- a number for each entry: while bytes are below 256, no two entries have the same
 abbrev pub entryNumber : Entry → ℕ

@@ -1,12 +1,11 @@
 -- What a run of the program reads and writes, as a log of crates/streams. Assumes nothing: these are definitions.
 use Prim.Native.Nat.{ℕ, _<_}
 use mathlib.Core.Path.{_≡_}
-use mathlib.Core.Bool.{true}
 use mathlib.Core.List.{List, [], _∷_, _++_, flatten}
 use lib.ListN.{length}
 use Rattle.line.specs.Held.{Holds, heldAfter}
 use Rattle.line.specs.declared.Line.{Line}
-use Rattle.streams.specs.Log.{Entry, endOfInput, readFailed, writeFailed, readIn, writtenIn, noneFailed, Logged}
+use Rattle.streams.specs.Log.{Entry, endOfInput, readFailed, writeFailed, readIn, writtenIn, failuresIn, Logged}
 use Rattle.streams.specs.Parts.{OfBytes, oneRead, writes}
 use Rattle.treenum.specs.Treenum.{printedFor, putAfter}
 use Rattle.treenum.specs.declared.Put.{Put}
@@ -102,7 +101,7 @@ pub record Answered (log : List Entry) : Type 0 where
   pub earlier : List Entry
   pub last : List ℕ
   pub to-end : log ≡ earlier ++ endOfInput ∷ writes last
-  pub none-failed : noneFailed log ≡ true
+  pub none-failed : failuresIn log ≡ []
   pub written : writtenIn log ≡ printedFor (readIn log)
 
 -- However a run ends, it handed to writes what is printed for what it read, or a beginning of that, and nothing else (the theorem `nothing-else`)
