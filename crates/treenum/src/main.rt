@@ -2,7 +2,7 @@
 // its term; any other line is a term, answered by its number. The table is the source paper's.
 //
 // Answers are gathered, and written when the list may have no room for one more, and before each read. All reading and writing is by the crate
-// `streams`; this crate stands on no other that can read or write.
+// `streams`, with one log, which `main` makes: no other crate that this one stands on reads or writes (tests/one_log).
 use line::Fed;
 use line::Line;
 use line::empty_line;
@@ -178,6 +178,7 @@ fn run(log: &mut u64) -> Ending
 {
     let mut chunk = [0u8; 16384];
     let mut text = [0u8; 4096];
+    // 16,384 bytes, and room for one answer more
     let mut out = [0u8; 69633];
     let mut line = empty_line();
     let mut turns = u64::MAX;
