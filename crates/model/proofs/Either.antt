@@ -12,7 +12,7 @@ use Rattle.model.specs.Tree.{Forest, empty, node, serial}
 use Rattle.model.specs.Names.{isLetter, isNameByte, isName, lower, alike, sameName, EachAlike, Line, joined, linesOf, noLine, lineAt, howManyNames, nameOf, lineWith, symbolOf, isListed, lineGround, namesThen}
 use Rattle.model.specs.Entries.{treeThen, treeFrom}
 use Rattle.model.specs.Term.{Terms, none, term, Term, alone, inBrackets, afterComma, textOfTerms, textOf, AllNames, IsTerm, ScanState, due, inName, closed, ScanStep, step, Scan, passes, breaksAt, onward, scan, breakThen, termThen, nameBegins, nameAt, termFrom}
-use Rattle.model.specs.TermOperations.{symbolsOf, namesOf, treeOfTerm, termOfTree, entriesOf, bytesOf, nameGround, readWhole, readNamed, readTermOutcome, symbolGround, writeNamed, writeTermOutcome, readTermList, writeTermList}
+use Rattle.model.specs.TermOperations.{fitsIn, symbolsOf, namesOf, treeOfTerm, termOfTree, entriesOf, bytesOf, nameGround, readWhole, readNamed, readTermOutcome, symbolGround, writeNamed, writeTermOutcome, readTermList, writeTermList}
 use Rattle.model.specs.Spelling.{EitherSpelling, EitherList}
 use Rattle.model.proofs.Choice.{not-both}
 use Rattle.model.proofs.Lists.{same-long, same-append}
@@ -136,7 +136,7 @@ read-small names room text =
     ∙ ap (λ (o : Outcome). if ltb 65536 (length text) then refused 18 0 else o) (go (scan (due 0) 0 text) refl))
   where
     fits : List ℕ → Outcome
-    fits xs = if ltb 4096 (length xs) then refused 21 0 else if ltb room (length xs) then refused 22 (length xs) else result (length xs)
+    fits xs = fitsIn 4096 (length xs) room
 
     go : (s : Scan) → scan (due 0) 0 text ≡ s → breakThen s (readWhole 4096 names (map lower text) room) ≡ breakThen s (readWhole 4096 names text room)
     go passes f =
@@ -278,9 +278,7 @@ read-list-small text room names =
     (if ltb 65536 (length text) then refused 18 0 else
     termThen text
     (firstFaulty (length text) (λ k. if nameBegins text k && not (listed-small names (nameAt text k) i) then 20 else 0)
-    (let needed = length (entries-list-small text names i) in
-    if ltb 4096 needed then refused 21 0 else
-    if ltb room needed then refused 22 needed else result needed))))
+    (fitsIn 4096 (length (entries-list-small text names i)) room))))
 
 write-list-small : (tree : List ℕ) (room : ℕ) (names : List ℕ) → writeTermOutcome (map lower names) tree room ≡ writeTermOutcome names tree room
 unfolding writeTermOutcome symbolGround

@@ -46,15 +46,18 @@ AllListed names (term n inner right) = (isListed names n ≡ true) × AllListed 
 unfoldable pub nameGround : (names text : List ℕ) → ℕ → ℕ
 nameGround names text i = if nameBegins text i && not (isListed names (nameAt text i)) then 20 else 0
 
+-- "A tree above 4,096 entries is 21. A short lent list is 22, with the entries needed.": with a limit, for a tree of so many entries
+abbrev pub fitsIn : (limit needed room : ℕ) → Outcome
+fitsIn limit needed room =
+    if ltb limit needed then refused 21 0 else
+    if ltb room needed then refused 22 needed else result needed
+
 -- Reading a term, with a limit for the entries of its tree: the grounds from the last to the first. Each definition is what is answered where no
 -- ground that document 01 names before holds
 module _ (limit : ℕ) (names text : List ℕ) (room : ℕ) where
-  -- "A tree above 4,096 entries is 21. A short lent list is 22, with the entries needed."
+  -- the last grounds, and the result
   abbrev pub readFits : Outcome
-  readFits =
-      let needed = length (entriesOf names text) in
-      if ltb limit needed then refused 21 0 else
-      if ltb room needed then refused 22 needed else result needed
+  readFits = fitsIn limit (length (entriesOf names text)) room
 
   -- "A name not listed is 20"
   abbrev pub readWhole : Outcome

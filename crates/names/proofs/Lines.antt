@@ -1,6 +1,6 @@
 -- The lines of a names list, taken one after another. Assumes nothing.
-use Prim.Native.Nat.{ℕ, suc, _+_, _-_, _*_, _<_, _≤_}
-use mathlib.Core.Path.{_≡_, refl, sym, ap, _∙_}
+use Prim.Native.Nat.{ℕ, suc, _+_, _-_, _*_, _/_, _<_, _≤_}
+use mathlib.Core.Path.{_≡_, refl, sym, ap, ap₂, _∙_}
 use mathlib.Core.Bool.{Bool, true, false, _&&_, _||_, not, and-true as and-yes, and-false, or-true}
 use mathlib.Core.List.{List, [], _∷_, _++_, map, append-assoc, append-nil, head-eq-of-cons-eq, tail-eq-of-cons-eq}
 use native.Mathlib.Omega.{arith}
@@ -11,51 +11,56 @@ use lib.Dec.{eqb, ltb, leb}
 use borrow.Author.Tests.{eqb-true, ltb-true, lt-ltb, le-ltb, ltb-false, le-leb, lt-leb, eq-eqb, ne-eqb}
 use Rattle.model.specs.Answers.{Outcome, refused}
 use Rattle.model.specs.Choice.{if_then_else_, anyBelow}
-use Rattle.model.specs.Names.{isLetter, isNameByte, allNameBytes, isName, sameName, Line, joined, linesOf, noLine, lineAt, howManyNames, lineWith, symbolOf, isListed, lineGround, namesThen}
-use Rattle.model.specs.Term.{run}
+use Rattle.model.specs.Names.{isLetter, allNameBytes, isName, alike, sameName, Line, joined, linesOf, noLine, lineAt, howManyNames, lineWith, symbolOf, isListed, lineGround, namesThen}
 use Rattle.model.proofs.Choice.{and-true, no-fault, fault-refused, none-more, any-none, any-true, is-false, not-both}
-use Rattle.model.proofs.Bytes.{letter-byte, byte-not-ten, end-no-byte, name-bytes, IsName, name-parts, name-made, byte-first, byte-others, run-bytes}
+use Rattle.model.proofs.Bytes.{letter-byte, name-bytes, IsName, name-parts, name-made, byte-others}
 use Rattle.model.proofs.Alike.{same-folded, same-sym, same-trans}
-use Rattle.model.proofs.Names.{first-ended, some-lines, no-lines, line-first, line-none}
-use Rattle.chains.specs.Hash.{mixAll, spread}
+use Rattle.model.proofs.Names.{some-lines, no-lines, line-first, line-none}
+use Rattle.words.specs.Words.{isInner}
 use Rattle.chains.specs.Chains.{Clear}
 use Rattle.chains.specs.declared.Found.the-variants.{At, Nothing}
 use Rattle.chains.proofs.First.{first-none, first-is, apart}
 use Rattle.chains.proofs.Chains.{chained, chains-begin}
-use Rattle.model.proofs.Lists.{drop-next}
-use Rattle.names.proofs.Bytes.{run-more, caseless-small}
-use Rattle.names.specs.NamesIndex.{nameEnd, nameFound, caseless, hashOf, bucketOf, Stands, NamesIndexed, Started, NamesAnswer}
+use Rattle.model.proofs.Lists.{drop-next, same-long}
+use Rattle.names.proofs.Bytes.{caseless-small, inner-first, inner-others, byte-inner, name-inner, outer-no-byte, inner-not-ten, stretch-inner, stretch-split, stretch-all, stretch-named}
+use Rattle.names.specs.NamesIndex.{nameEnd, nameFound, caseless, allInner, stretch, OnlyListBytes, mixWords, bucketAt, hashOf, bucketOf, Stands, NamesIndexed, Started, NamesAnswer}
 use Rattle.names.specs.declared.NamesCheck.the-variants.{Faulty, Sound as NamesSound}
 
-too-long : (n : List ℕ) → isName n ≡ true → 24 < length n → ⊥
-too-long n e l = let p = name-parts n e in omega (arith, p .short, ap length (p .is))
+pub name-short : (n : List ℕ) → isName n ≡ true → length n ≤ 24
+name-short n e = let p = name-parts n e in omega (arith, p .short, ap length (p .is))
 
 -- ---- the first line
 
--- name bytes alone
-first-open : (n : List ℕ) → allNameBytes n ≡ true → lineAt n 0 .ended ≡ false
+-- bytes from `-` to `z` alone
+first-open : (n : List ℕ) → allInner n ≡ true → lineAt n 0 .ended ≡ false
 unfolding linesOf
 first-open [] e = refl
-first-open (b ∷ n) e = rw (byte-not-ten b (byte-first b n e)) (go (linesOf n) (first-open n (byte-others b n e)))
+first-open (b ∷ n) e = rw (inner-not-ten b (inner-first b n e)) (go (linesOf n) (first-open n (inner-others b n e)))
   where
     go : (ls : List Line) → getD ls 0 noLine .ended ≡ false → getD (joined b ls) 0 noLine .ended ≡ false
     go [] h = refl
     go (l ∷ ls) h = h
 
--- name bytes before a byte that is neither a name byte nor byte 10
-first-bad : (n : List ℕ) (y : ℕ) (ys : List ℕ) → allNameBytes n ≡ true → isNameByte y ≡ false → eqb y 10 ≡ false
+-- such bytes before a byte that is none of them, and not byte 10
+first-bad : (n : List ℕ) (y : ℕ) (ys : List ℕ) → allInner n ≡ true → isInner y ≡ false → eqb y 10 ≡ false
     → allNameBytes (lineAt (n ++ y ∷ ys) 0 .bytes) ≡ false
 unfolding linesOf allNameBytes
 first-bad [] y ys e f g = rw g (go (linesOf ys))
   where
     go : (ls : List Line) → allNameBytes (getD (joined y ls) 0 noLine .bytes) ≡ false
-    go [] = rw f
-    go (l ∷ ls) = rw f
-first-bad (b ∷ n) y ys e f g = rw (byte-not-ten b (byte-first b n e)) (go (linesOf (n ++ y ∷ ys)) (first-bad n y ys (byte-others b n e) f g))
+    go [] = rw (outer-no-byte y f)
+    go (l ∷ ls) = rw (outer-no-byte y f)
+first-bad (b ∷ n) y ys e f g = rw (inner-not-ten b (inner-first b n e)) (go (linesOf (n ++ y ∷ ys)) (first-bad n y ys (inner-others b n e) f g))
   where
     go : (ls : List Line) → allNameBytes (getD ls 0 noLine .bytes) ≡ false → allNameBytes (getD (joined b ls) 0 noLine .bytes) ≡ false
     go [] h = let z : _≡_ {A = ℕ} 0 1 = cc in absurd (omega arith)
     go (l ∷ ls) h = rw (h, and-false)
+
+-- such bytes before byte 10
+first-inner : (n ys : List ℕ) → allInner n ≡ true → linesOf (n ++ 10 ∷ ys) ≡ record { bytes = n; ended = true } ∷ linesOf ys
+unfolding linesOf
+first-inner [] ys e = refl
+first-inner (b ∷ n) ys e = rw (inner-not-ten b (inner-first b n e), first-inner n ys (inner-others b n e))
 
 -- a first line with byte 10 after it: the bytes after that, and the lines after it
 record Split (xs : List ℕ) (ls : List Line) : Type 0 where
@@ -83,76 +88,81 @@ line-split (b ∷ bs) e = go (eqb b 10) refl (linesOf bs) refl (line-split bs) e
 
 -- ---- the line that begins at a place
 
--- the run of name bytes there, and what comes after it
-run-split : (xs : List ℕ) → (xs ≡ run xs ++ drop (length (run xs)) xs) × (isNameByte (getD xs (length (run xs)) 0) ≡ false)
-unfolding run
-run-split [] = (refl, end-no-byte)
-run-split (b ∷ bs) = go (isNameByte b) refl (run-split bs)
-  where
-    go : (t : Bool) → isNameByte b ≡ t → (bs ≡ run bs ++ drop (length (run bs)) bs) × (isNameByte (getD bs (length (run bs)) 0) ≡ false)
-        → ((b ∷ bs) ≡ (if t then b ∷ run bs else []) ++ drop (length (if t then b ∷ run bs else [])) (b ∷ bs))
-        × (isNameByte (getD (b ∷ bs) (length (if t then b ∷ run bs else [])) 0) ≡ false)
-    go true e h = (ap (λ (x : List ℕ). b ∷ x) (h .0), h .1)
-    go false e h = (refl, e)
+stretch-more : (l : List ℕ) (i : ℕ) → i < length l → isInner (getD l i 0) ≡ true → stretch (drop i l) ≡ getD l i 0 ∷ stretch (drop (i + 1) l)
+unfolding stretch
+stretch-more l i lt e = rw (drop-next l i lt, e)
 
--- where the run ends
-module _ (names : List ℕ) (at end : ℕ) (l : end ≡ at + length (run (drop at names))) where
-  pub rest-is : drop at names ≡ run (drop at names) ++ drop end names
-  rest-is = run-split (drop at names) .0 ∙ ap (λ (x : List ℕ). run (drop at names) ++ x) (drop-drop (length (run (drop at names))) at names ∙ ap (λ (i : ℕ). drop i names) (sym l))
+-- where the stretch ends
+module _ (names : List ℕ) (at end : ℕ) (l : end ≡ at + length (stretch (drop at names))) where
+  rest-is : drop at names ≡ stretch (drop at names) ++ drop end names
+  rest-is = stretch-split (drop at names) .0 ∙ ap (λ (x : List ℕ). stretch (drop at names) ++ x) (drop-drop (length (stretch (drop at names))) at names ∙ ap (λ (i : ℕ). drop i names) (sym l))
 
-  pub end-byte : isNameByte (getD names end 0) ≡ false
-  end-byte = ap (λ (i : ℕ). isNameByte (getD names i 0)) l ∙ sym (ap (λ (x : ℕ). isNameByte x) (getD-drop at names (length (run (drop at names))) 0)) ∙ run-split (drop at names) .1
+  end-byte : isInner (getD names end 0) ≡ false
+  end-byte = ap (λ (i : ℕ). isInner (getD names i 0)) l ∙ sym (ap (λ (x : ℕ). isInner x) (getD-drop at names (length (stretch (drop at names))) 0)) ∙ stretch-split (drop at names) .1
 
   -- at the list's end
   pub end-open : end ≡ length names → Nothing ≡ nameEnd names at
   unfolding nameEnd
   end-open e =
-      let r : drop at names ≡ run (drop at names) = rest-is ∙ ap (λ (x : List ℕ). run (drop at names) ++ x) (drop-of-length-le names {i = end} (omega arith)) ∙ append-nil (run (drop at names)) in
-      let f : lineAt (drop at names) 0 .ended ≡ false = ap (λ (x : List ℕ). lineAt x 0 .ended) r ∙ first-open (run (drop at names)) (run-bytes (drop at names)) in
+      let r : drop at names ≡ stretch (drop at names) = rest-is ∙ ap (λ (x : List ℕ). stretch (drop at names) ++ x) (drop-of-length-le names {i = end} (omega arith)) ∙ append-nil (stretch (drop at names)) in
+      let f : lineAt (drop at names) 0 .ended ≡ false = ap (λ (x : List ℕ). lineAt x 0 .ended) r ∙ first-open (stretch (drop at names)) (stretch-inner (drop at names)) in
       rw (f, and-false)
 
   -- before another byte than 10
   pub end-bad : end < length names → (getD names end 0 ≡ 10 → ⊥) → Nothing ≡ nameEnd names at
   unfolding nameEnd
   end-bad m ne =
-      let r : drop at names ≡ run (drop at names) ++ getD names end 0 ∷ drop (suc end) names = rest-is ∙ ap (λ (x : List ℕ). run (drop at names) ++ x) (drop-cons names end 0 m) in
+      let r : drop at names ≡ stretch (drop at names) ++ getD names end 0 ∷ drop (suc end) names = rest-is ∙ ap (λ (x : List ℕ). stretch (drop at names) ++ x) (drop-cons names end 0 m) in
       let f : allNameBytes (lineAt (drop at names) 0 .bytes) ≡ false =
-      ap (λ (x : List ℕ). allNameBytes (lineAt x 0 .bytes)) r ∙ first-bad (run (drop at names)) (getD names end 0) (drop (suc end) names) (run-bytes (drop at names)) end-byte (ne-eqb (getD names end 0) 10 ne) in
+      ap (λ (x : List ℕ). allNameBytes (lineAt x 0 .bytes)) r
+      ∙ first-bad (stretch (drop at names)) (getD names end 0) (drop (suc end) names) (stretch-inner (drop at names)) end-byte (ne-eqb (getD names end 0) 10 ne) in
       let g : isName (lineAt (drop at names) 0 .bytes) ≡ false = is-false (isName (lineAt (drop at names) 0 .bytes)) (λ h. not-both (allNameBytes (lineAt (drop at names) 0 .bytes)) (name-bytes (lineAt (drop at names) 0 .bytes) h) f) in
       rw g
 
+  -- the part that is looked at
+  pub part-stretch : take (end - at) (drop at names) ≡ stretch (drop at names)
+  part-stretch = ap (λ (x : List ℕ). take (end - at) x) rest-is ∙ take-at (stretch (drop at names)) (drop end names) (end - at) (omega arith)
+
+  pub part-named : OnlyListBytes 0 names → allNameBytes (take (end - at) (drop at names)) ≡ true
+  part-named o =
+      ap allNameBytes part-stretch
+      ∙ stretch-named (drop at names) (λ i k. rw (getD-drop at names i 0) (o .at (at + i) (omega arith) (omega (arith, length-drop at names))))
+
   -- before byte 10
   module _ (m : end < length names) (ten : getD names end 0 ≡ 10) where
-    line-is : lineAt (drop at names) 0 ≡ record { bytes = run (drop at names); ended = true }
+    line-is : lineAt (drop at names) 0 ≡ record { bytes = stretch (drop at names); ended = true }
     line-is =
-        let r : drop at names ≡ run (drop at names) ++ 10 ∷ drop (suc end) names =
-        rest-is ∙ ap (λ (x : List ℕ). run (drop at names) ++ x) (drop-cons names end 0 m ∙ ap (λ (x : ℕ). x ∷ drop (suc end) names) ten) in
-        ap (λ (x : List ℕ). lineAt x 0) r ∙ ap (λ (x : List Line). getD x 0 noLine) (first-ended (run (drop at names)) (drop (suc end) names) (run-bytes (drop at names)))
+        let r : drop at names ≡ stretch (drop at names) ++ 10 ∷ drop (suc end) names =
+        rest-is ∙ ap (λ (x : List ℕ). stretch (drop at names) ++ x) (drop-cons names end 0 m ∙ ap (λ (x : ℕ). x ∷ drop (suc end) names) ten) in
+        ap (λ (x : List ℕ). lineAt x 0) r ∙ ap (λ (x : List Line). getD x 0 noLine) (first-inner (stretch (drop at names)) (drop (suc end) names) (stretch-inner (drop at names)))
 
-    ended-by : nameEnd names at ≡ (if isName (run (drop at names)) then At end else Nothing)
+    ended-by : nameEnd names at ≡ (if isName (stretch (drop at names)) then At end else Nothing)
     unfolding nameEnd
     ended-by = rw (line-is, and-yes, l)
 
-    pub end-long : 24 < end - at → Nothing ≡ nameEnd names at
-    end-long h =
-        let f : isName (run (drop at names)) ≡ false = is-false (isName (run (drop at names))) (λ e. too-long (run (drop at names)) e (omega (arith, l))) in
-        sym (rw f at ended-by)
+    no-end : isName (stretch (drop at names)) ≡ false → Nothing ≡ nameEnd names at
+    no-end f = sym (rw f at ended-by)
 
-    pub end-name : end - at ≤ 24 → isLetter (getD names at 0) ≡ true → At end ≡ nameEnd names at
-    end-name h e =
-        let q = run-more names at (omega (arith, l)) (letter-byte (getD names at 0) e) in
-        let c = byte-others (getD names at 0) (run (drop (at + 1) names)) (rw q at (run-bytes (drop at names))) in
+    pub end-long : 24 < end - at → Nothing ≡ nameEnd names at
+    end-long h = no-end (is-false (isName (stretch (drop at names))) (λ e. absurd (omega (arith, l, name-short (stretch (drop at names)) e))))
+
+    pub end-unnamed : allNameBytes (take (end - at) (drop at names)) ≡ false → Nothing ≡ nameEnd names at
+    end-unnamed h =
+        no-end (is-false (isName (stretch (drop at names))) (λ e. not-both (allNameBytes (stretch (drop at names))) (name-bytes (stretch (drop at names)) e) (rw part-stretch at h)))
+
+    pub end-name : end - at ≤ 24 → allNameBytes (take (end - at) (drop at names)) ≡ true → isLetter (getD names at 0) ≡ true → At end ≡ nameEnd names at
+    end-name h a e =
+        let q = stretch-more names at (omega (arith, l)) (byte-inner (getD names at 0) (letter-byte (getD names at 0) e)) in
+        let c = byte-others (getD names at 0) (stretch (drop (at + 1) names)) (rw q at (rw part-stretch at a)) in
         let n = ap length q in
-        let f : isName (run (drop at names)) ≡ true =
-        ap (λ (x : List ℕ). isName x) q ∙ name-made (getD names at 0) (run (drop (at + 1) names)) e c (omega (arith, n, l)) in
+        let f : isName (stretch (drop at names)) ≡ true =
+        ap (λ (x : List ℕ). isName x) q ∙ name-made (getD names at 0) (stretch (drop (at + 1) names)) e c (omega (arith, n, l)) in
         sym (rw f at ended-by)
 
     pub end-no-letter : isLetter (getD names at 0) ≡ false → Nothing ≡ nameEnd names at
-    end-no-letter e =
-        let f : isName (run (drop at names)) ≡ false = is-false (isName (run (drop at names))) (λ t. go (name-parts (run (drop at names)) t)) in
-        sym (rw f at ended-by)
+    end-no-letter e = no-end (is-false (isName (stretch (drop at names))) (λ t. go (name-parts (stretch (drop at names)) t)))
       where
-        go : IsName (run (drop at names)) → ⊥
+        go : IsName (stretch (drop at names)) → ⊥
         go p =
             let r : p .first ∷ (p .others ++ drop end names) ≡ getD names at 0 ∷ drop (at + 1) names =
             ap (λ (x : List ℕ). x ++ drop end names) (sym (p .is)) ∙ sym rest-is ∙ drop-next names at (omega (arith, l)) in
@@ -165,8 +175,8 @@ pub found-none : (names : List ℕ) (n : ℕ) (name : List ℕ) → nameFound na
 found-none names n name e k l = is-false (sameName (lineAt names k .bytes) name) (first-none (λ j. sameName (lineAt names j .bytes) name) n e k l)
 
 -- the first n lines are without fault, and the next one begins at `at`
-pub record Sofar (names starts heads next : List ℕ) (n at : ℕ) : Type 0 where
-  pub known : NamesIndexed names starts heads next n
+pub record Sofar (seed : ℕ) (names starts heads next : List ℕ) (n at : ℕ) : Type 0 where
+  pub known : NamesIndexed seed names starts heads next n
   pub at-is : getD starts n 0 ≡ at
   pub within : at ≤ length names
   pub small : at ≤ 25 * n
@@ -175,11 +185,11 @@ pub record Sofar (names starts heads next : List ℕ) (n at : ℕ) : Type 0 wher
   pub sound : (k : ℕ) → k < n → lineGround names k ≡ 0
 
 -- before the first line
-pub begins : (names starts heads next : List ℕ) → Started starts → Clear 512 256 heads next → Sofar names starts heads next 0 0
-begins names starts heads next s z = record {
+pub begins : (seed : ℕ) (names starts heads next : List ℕ) → Started starts → Clear 512 256 heads next → Sofar seed names starts heads next 0 0
+begins seed names starts heads next s z = record {
   known = record {
     lined = record { few = omega arith; long = s .long; stands = λ k l. absurd (omega arith) };
-    chains = chains-begin (bucketOf names) z;
+    chains = chains-begin (bucketOf seed names) z;
     apart = λ j k m l. absurd (omega arith);
   };
   at-is = s .first;
@@ -190,7 +200,7 @@ begins names starts heads next s z = record {
   sound = λ k l. absurd (omega arith);
 }
 
-module _ {names starts heads next : List ℕ} {n at : ℕ} (s : Sofar names starts heads next n at) (l : at < length names) where
+module _ {seed : ℕ} {names starts heads next : List ℕ} {n at : ℕ} (s : Sofar seed names starts heads next n at) (l : at < length names) where
   some-left : n < howManyNames names
   some-left =
       let d : length (drop at names) ≡ length names - at = length-drop at names in
@@ -253,7 +263,7 @@ module _ {names starts heads next : List ℕ} {n at : ℕ} (s : Sofar names star
     spot = rw (here) (split .is)
 
     short : length (lineAt names n .bytes) ≤ 24
-    short = let p = name-parts (lineAt names n .bytes) is-name in omega (arith, p .short, ap length (p .is))
+    short = name-short (lineAt names n .bytes) is-name
 
     pub fits : (end + 1 ≤ length names) × (at ≤ end)
     fits =
@@ -279,9 +289,15 @@ module _ {names starts heads next : List ℕ} {n at : ℕ} (s : Sofar names star
     pub part-is : take (end - at) (drop at names) ≡ lineAt names n .bytes
     part-is = ap (λ (x : List ℕ). take (end - at) x) spot ∙ take-at (lineAt names n .bytes) (10 ∷ split .rest) (end - at) (omega (arith, end-is))
 
-    -- its bytes are name bytes
-    pub part-clean : allNameBytes (take (end - at) (drop at names)) ≡ true
-    part-clean = ap allNameBytes part-is ∙ name-bytes (lineAt names n .bytes) is-name
+    inner : allInner (lineAt names n .bytes) ≡ true
+    inner = name-inner (lineAt names n .bytes) (name-bytes (lineAt names n .bytes) is-name)
+
+    -- it is the stretch there
+    pub stretch-part : stretch (drop at names) ≡ take (end - at) (drop at names)
+    stretch-part = ap stretch spot ∙ stretch-all (lineAt names n .bytes) (10 ∷ split .rest) inner refl ∙ sym part-is
+
+    pub part-inner : allInner (take (end - at) (drop at names)) ≡ true
+    part-inner = ap allInner part-is ∙ inner
 
     -- the name stands on an earlier line
     pub again : (k : ℕ) → nameFound names n (take (end - at) (drop at names)) ≡ At k → (o : Outcome) → refused 17 n ≡ namesThen names o
@@ -290,7 +306,7 @@ module _ {names starts heads next : List ℕ} {n at : ℕ} (s : Sofar names star
         faulty (rw (or-true) at (ground _ true _ _ refl (any-true n k (λ j. sameName (lineAt names j .bytes) (lineAt names n .bytes)) (g .0) (g .1)) refl refl))
 
     -- it stands on none
-    module _ (few : n < 255) (b : ℕ) (q : b ≡ hashOf (take (end - at) (drop at names))) (lt : b < 512) (none : nameFound names n (take (end - at) (drop at names)) ≡ Nothing) where
+    module _ (few : n < 255) (b : ℕ) (q : b ≡ hashOf seed (take (end - at) (drop at names))) (lt : b < 512) (none : nameFound names n (take (end - at) (drop at names)) ≡ Nothing) where
       new : (j : ℕ) → j < n → sameName (lineAt names j .bytes) (lineAt names n .bytes) ≡ false
       new = found-none names n (lineAt names n .bytes) (rw (part-is) at none)
 
@@ -305,15 +321,14 @@ module _ {names starts heads next : List ℕ} {n at : ℕ} (s : Sofar names star
             ends = omega (arith, end-is);
             within = fits .0;
             part = ap (λ (i : ℕ). take i (drop at names)) (let z : length (lineAt names n .bytes) ≡ end - at = omega (arith, end-is) in z) ∙ part-is;
-            short = short;
-            clean = name-bytes (lineAt names n .bytes) is-name;
+            named = is-name;
           })
 
       apart-more : (j k : ℕ) → j < k → k < n + 1 → (t : Bool) → ltb k n ≡ t → sameName (lineAt names j .bytes) (lineAt names k .bytes) ≡ false
       apart-more j k m i true p = s .known .apart j k m (ltb-true k n p)
       apart-more j k m i false p = let same : k ≡ n = omega (arith, ltb-false k n p) in rw same (new j (omega arith))
 
-      pub entered : Sofar names (set starts (n + 1) (end + 1)) (set heads b (n + 1)) (set next n (getD heads b 0)) (n + 1) (end + 1)
+      pub entered : Sofar seed names (set starts (n + 1) (end + 1)) (set heads b (n + 1)) (set next n (getD heads b 0)) (n + 1) (end + 1)
       entered = record {
         known = record {
           lined = record { few = omega arith; long = length-set starts (n + 1) (end + 1) ∙ s .known .lined .long; stands = λ k m. stands-more k m (ltb k n) refl };
@@ -333,7 +348,7 @@ module _ {names starts heads next : List ℕ} {n at : ℕ} (s : Sofar names star
       }
 
 -- all lines are taken
-module _ {names starts heads next : List ℕ} {n at : ℕ} (s : Sofar names starts heads next n at) (ge : length names ≤ at) where
+module _ {seed : ℕ} {names starts heads next : List ℕ} {n at : ℕ} (s : Sofar seed names starts heads next n at) (ge : length names ≤ at) where
   pub all-taken : n ≡ howManyNames names
   unfolding linesOf
   all-taken = let a = ap length (ap (λ (x : List ℕ). linesOf x) (drop-of-length-le names {i = at} ge)) in omega (arith, s .left)
@@ -360,19 +375,19 @@ abbrev pub sought : (names name : List ℕ) → ℕ → Bool
 sought names name k = sameName (lineAt names k .bytes) name
 
 -- equal names have equal buckets
-pub same-bucket : (a b : List ℕ) → sameName a b ≡ true → hashOf a ≡ hashOf b
+pub same-bucket : (seed : ℕ) (a b : List ℕ) → sameName a b ≡ true → hashOf seed a ≡ hashOf seed b
 unfolding hashOf
-same-bucket a b e =
-    ap (λ (x : List ℕ). spread 8388608 (mixAll 0 x)) (sym (caseless-small a) ∙ ap (map caseless) (same-folded a b e) ∙ caseless-small b)
+same-bucket seed a b e =
+    ap₂ (λ (n : ℕ) (x : List ℕ). bucketAt (mixWords (n / 8) seed x)) (same-long alike a b e) (sym (caseless-small a) ∙ ap (map caseless) (same-folded a b e) ∙ caseless-small b)
 
 -- it is in the name's bucket
-pub name-bucket : (names name : List ℕ) (b : ℕ) → b ≡ hashOf name → (k : ℕ) → sought names name k ≡ true → bucketOf names k ≡ b
-name-bucket names name b e k t = same-bucket (lineAt names k .bytes) name t ∙ sym e
+pub name-bucket : (seed : ℕ) (names name : List ℕ) (b : ℕ) → b ≡ hashOf seed name → (k : ℕ) → sought names name k ≡ true → bucketOf seed names k ≡ b
+name-bucket seed names name b e k t = same-bucket seed (lineAt names k .bytes) name t ∙ sym e
 
 -- no earlier line has the name
-pub no-earlier : {names starts heads next : List ℕ} {n : ℕ} → NamesIndexed names starts heads next n → (name : List ℕ) (p : ℕ) → p < n → sought names name p ≡ true
+pub no-earlier : {seed : ℕ} {names starts heads next : List ℕ} {n : ℕ} → NamesIndexed seed names starts heads next n → (name : List ℕ) (p : ℕ) → p < n → sought names name p ≡ true
     → (k : ℕ) → k < p → sought names name k ≡ true → ⊥
-no-earlier {names} x name p l t k m u =
+no-earlier {names = names} x name p l t k m u =
     not-both (sameName (lineAt names k .bytes) (lineAt names p .bytes))
     (same-trans (lineAt names k .bytes) name (lineAt names p .bytes) u (same-sym (lineAt names p .bytes) name t))
     (x .apart k p m l)
@@ -394,15 +409,15 @@ not-found-listed names name n e f =
 -- ---- the answer
 
 -- a faulty line, and what follows from 'the list keeps to the rules'
-pub faulty-line : {names starts heads next : List ℕ} (k : ℕ) → ((o : Outcome) → refused 17 k ≡ namesThen names o) → NamesAnswer names starts heads next (Faulty k)
+pub faulty-line : {seed : ℕ} {names starts heads next : List ℕ} (k : ℕ) → ((o : Outcome) → refused 17 k ≡ namesThen names o) → NamesAnswer seed names starts heads next (Faulty k)
 faulty-line k d = record { decided = d; count = λ n h. never h; known = λ n h. never h }
   where
     never : {A : Type 0} {n : ℕ} → Faulty k ≡ NamesSound n → A
     never h = let z : _≡_ {A = ℕ} 0 1 = cc in absurd (omega arith)
 
-pub sound-list : {names starts heads next : List ℕ} {n at : ℕ} → Sofar names starts heads next n at → length names ≤ at → (n ≡ 0 → ⊥)
-    → NamesAnswer names starts heads next (NamesSound n)
-sound-list {names} {starts} {heads} {next} {n} s ge nz = record {
+pub sound-list : {seed : ℕ} {names starts heads next : List ℕ} {n at : ℕ} → Sofar seed names starts heads next n at → length names ≤ at → (n ≡ 0 → ⊥)
+    → NamesAnswer seed names starts heads next (NamesSound n)
+sound-list {n = n} s ge nz = record {
   decided = all-sound s ge nz;
   count = λ m h. sym (same h) ∙ all-taken s ge;
   known = λ m h. rw (sym (same h)) (s .known);

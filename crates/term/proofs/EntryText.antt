@@ -1,16 +1,18 @@
 -- The bytes of an entry, by what stands before it, and the bytes of the entries from a place on. Assumes nothing.
 use Prim.Native.Nat.{ℕ, _+_, _-_, _*_, _<_, _≤_}
-use mathlib.Core.Path.{_≡_, refl, ap}
+use mathlib.Core.Path.{_≡_, refl, sym, ap, _∙_}
+use mathlib.Core.Bool.{Bool, true, false}
 use mathlib.Core.List.{List, [], _∷_, _++_}
 use native.Mathlib.Omega.{arith}
 use native.Mathlib.Nat.{pos-of-ne-zero}
-use lib.ListN.{length, getD, drop, take, set, length-append, drop-of-length-le}
-use lib.Seq.{paste, take-all}
-use borrow.Author.Tests.{eq-eqb, ne-eqb}
+use lib.ListN.{length, getD, drop, set, length-append, drop-of-length-le}
+use lib.Dec.{eqb}
+use borrow.Author.Tests.{eqb-true, eqb-false, eq-eqb, ne-eqb}
 use Rattle.model.specs.Names.{nameOf, lineAt}
 use Rattle.model.proofs.Lists.{drop-next}
 use Rattle.names.specs.NamesIndex.{Lined}
-use Rattle.term.specs.Emit.{entryText, entriesText, markAfter}
+use Rattle.names.proofs.Lines as lines
+use Rattle.term.specs.Emit.{entryText, entriesText, closing, markAfter}
 use Rattle.term.specs.Written.{Put, Front}
 use Rattle.model.proofs.Writing.{Writing, writing-first, piece-fits, writing-last}
 use Rattle.term.proofs.Pieces.{piece-put, put-one, put-both}
@@ -40,7 +42,62 @@ name-line names e w h = rw h
 -- it has at most 24 bytes
 pub name-short : {names starts : List ℕ} {n : ℕ} → Lined names starts n → (e : ℕ) → (e ≡ 0 → ⊥) → e ≤ n → length (nameOf names e) ≤ 24
 unfolding nameOf
-name-short {names} {starts} {n} x e ne l = x .stands (e - 1) (omega (arith, pos-of-ne-zero ne)) .short
+name-short {names} {starts} {n} x e ne l = lines.name-short (lineAt names (e - 1) .bytes) (x .stands (e - 1) (omega (arith, pos-of-ne-zero ne)) .named)
+
+-- what is added for a bar after a bar
+module _ (mark e : ℕ) where
+  pub closing-one : e ≡ 0 → mark ≡ 44 → closing mark e ≡ 1
+  unfolding closing
+  closing-one p q = rw (eq-eqb e 0 p, eq-eqb mark 44 q)
+
+  pub closing-none : e ≡ 0 → (mark ≡ 44 → ⊥) → closing mark e ≡ 0
+  unfolding closing
+  closing-none p q = rw (eq-eqb e 0 p, ne-eqb mark 44 q)
+
+  pub closing-name : (e ≡ 0 → ⊥) → closing mark e ≡ 0
+  unfolding closing
+  closing-name p = rw (ne-eqb e 0 p)
+
+-- after a separator an entry gives as many bytes as its line has, from its start to the next, and a bar none, or one where it closes
+module _ {names starts : List ℕ} {n : ℕ} (x : Lined names starts n) (e : ℕ) (few : e ≤ n) {next from : ℕ}
+    (to : next ≡ getD starts e 0) (begins : from ≡ getD starts (e - 1) 0) where
+  line-bar : e ≡ 0 → next ≡ from
+  line-bar p = to ∙ ap (λ (k : ℕ). getD starts k 0) (let z : e ≡ e - 1 = omega arith in z) ∙ sym begins
+
+  line-name : (e ≡ 0 → ⊥) → (next ≡ from + length (nameOf names e) + 1) × (length (nameOf names e) ≤ 24)
+  unfolding nameOf
+  line-name p =
+      let l = pos-of-ne-zero p in
+      let s = x .stands (e - 1) (omega arith) in
+      let z = ap (λ (k : ℕ). getD starts k 0) (let y : e ≡ e - 1 + 1 = omega arith in y) in
+      (omega (arith, to, begins, z, s .ends), lines.name-short (lineAt names (e - 1) .bytes) (s .named))
+
+  pub line-from : from ≤ next
+  line-from = go (eqb e 0) (eqb-true e 0) (eqb-false e 0)
+    where
+      go : (t : Bool) → (t ≡ true → e ≡ 0) → (t ≡ false → e ≡ 0 → ⊥) → from ≤ next
+      go true u v = omega (arith, line-bar (u refl))
+      go false u v = omega (arith, line-name (v refl) .0)
+
+  pub line-length : (mark : ℕ) → (mark ≡ 0 → ⊥) → {c : ℕ} → c ≡ closing mark e
+      → (next - from + c ≡ length (entryText names mark e)) × (next - from + c ≤ 25)
+  line-length mark m {c} h = go (eqb e 0) (eqb mark 44) (eqb-true e 0) (eqb-false e 0) (eqb-true mark 44) (eqb-false mark 44)
+    where
+      go : (s t : Bool) → (s ≡ true → e ≡ 0) → (s ≡ false → e ≡ 0 → ⊥) → (t ≡ true → mark ≡ 44) → (t ≡ false → mark ≡ 44 → ⊥)
+          → (next - from + c ≡ length (entryText names mark e)) × (next - from + c ≤ 25)
+      go true true a b p q =
+          let f = ap length (letter-close names mark e (a refl) (p refl)) in
+          let k = closing-one mark e (a refl) (p refl) in
+          (omega (arith, line-bar (a refl), f, h, k), omega (arith, line-bar (a refl), h, k))
+      go true false a b p q =
+          let f = ap length (letter-bar names mark e (a refl) (q refl)) in
+          let k = closing-none mark e (a refl) (q refl) in
+          (omega (arith, line-bar (a refl), f, h, k), omega (arith, line-bar (a refl), h, k))
+      go false t a b p q =
+          let f = ap length (letter-mark names mark e (b refl) m) in
+          let k = closing-name mark e (b refl) in
+          let l = line-name (b refl) in
+          (omega (arith, l .0, f, h, k), omega (arith, l .0, l .1, h, k))
 
 -- the entries from i on
 pub letters-next : (names tree : List ℕ) (mark i : ℕ) → i < length tree
@@ -95,12 +152,6 @@ module _ {names tree old new : List ℕ} {at mark i : ℕ} (x : Lettered names t
 
 pub letter-last : {names tree old new : List ℕ} {at mark i : ℕ} → Lettered names tree old new at mark i → length tree ≤ i → Front old new (entriesText names 0 tree)
 letter-last {names} {tree} {old} {new} {at} {mark} {i} x ge = record { holds = writing-last (rw (letters-end names tree mark i ge) at (x .writes)) }
-
--- a copy of all bytes is a piece put
-pub pasted : (old bytes : List ℕ) (at i : ℕ) → length bytes ≤ i → i ≤ length bytes → Put old (paste old at bytes i) bytes at (at + i)
-pasted old bytes at i ge le =
-    let e : i ≡ length bytes = omega arith in
-    rw e (record { holds = ap (λ (x : List ℕ). take at old ++ x ++ drop (at + length bytes) old) (take-all (length bytes) bytes (omega arith)); after = refl })
 
 -- a mark, then a name
 pub marked : (old new name : List ℕ) (at mark next : ℕ) → at + length (mark ∷ name) ≤ length old → Put (set old at mark) new name (at + 1) next → Put old new (mark ∷ name) at next

@@ -2,7 +2,10 @@
 pub mod EntriesText
 pub mod Tokens
 pub mod Runs
+pub mod Marks
+pub mod Kept
+pub mod Going
 pub mod Pieces
-pub mod Entering
+pub mod Copies
 pub mod EntryText
 pub mod Outcomes

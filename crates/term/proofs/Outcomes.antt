@@ -1,22 +1,22 @@
 -- What the parts of the two operations answer, put together. Assumes nothing.
-use Prim.Native.Nat.{ℕ, _*_, _<_, _≤_}
+use Prim.Native.Nat.{ℕ, _<_, _≤_}
 use mathlib.Core.Path.{_≡_, refl, sym, ap, _∙_}
 use mathlib.Core.Bool.{Bool, true, false}
 use mathlib.Core.List.{List}
 use native.Mathlib.Omega.{arith}
-use lib.ListN.{length, getD}
+use lib.ListN.{length, getD, take, replicate, length-replicate, getD-replicate}
+use lib.Seq.{getD-take, ext-getD, length-take-le}
 use lib.Dec.{ltb}
 use borrow.Author.Tests.{lt-ltb, le-ltb, ltb-false}
 use Rattle.model.specs.Answers.{Outcome, result, refused, refusedBy, outcome, lentAfter}
 use Rattle.model.specs.Choice.{if_then_else_}
 use Rattle.model.specs.Names.{howManyNames, namesThen}
-use Rattle.model.specs.Term.{Scan, passes, breaksAt, IsTerm, termThen}
+use Rattle.model.specs.Term.{Scan, passes, breaksAt}
 use Rattle.model.specs.Tree.{WellFormed}
-use Rattle.model.specs.TermOperations.{entriesOf, bytesOf, readFits, readWhole, readNamed, symbolGround, writeFits, writeFormed, writeNamed, readTermOutcome, writeTermOutcome, readTermList, writeTermList}
+use Rattle.model.specs.TermOperations.{entriesOf, bytesOf, fitsIn, readFits, readNamed, symbolGround, writeFits, writeFormed, writeNamed, readTermOutcome, writeTermOutcome, readTermList, writeTermList}
 use Rattle.model.specs.declared.Answer.{Answer}
 use Rattle.model.proofs.Choice.{no-fault, fault-refused, is-false}
 use Rattle.model.specs.declared.Refusal.{Refusal}
-use Rattle.model.proofs.Scan.{whole-term}
 use Rattle.tree.specs.Reading.{Decides}
 use Rattle.tree.proofs.Laws.{list-refused, list-taken}
 use Rattle.tree.specs.declared.Form.{Form}
@@ -24,15 +24,15 @@ use Rattle.tree.specs.declared.Form.the-variants.{Refuses, Tree as FormTree}
 use Rattle.chains.specs.First.{firstWith}
 use Rattle.chains.specs.declared.Found.the-variants.{At, Nothing}
 use Rattle.chains.proofs.First.{first-is, first-none, apart}
-use Rattle.scan.specs.TextState.{placeOf, scanned}
-use Rattle.term.specs.Emit.{emitted, nameCount, entriesText}
-use Rattle.term.specs.Written.{Front, Listing, EntriesNamed, Gave, ReadTerm, WriteTerm}
+use Rattle.scan.specs.TextState.{placeOf}
+use Rattle.term.specs.Emit.{entriesText}
+use Rattle.term.specs.Pass.{unlistedAt, Cleared, passThen, Passed}
+use Rattle.term.specs.Written.{Front, EntriesNamed, Gave, ReadTerm, WriteTerm}
 use Rattle.names.specs.NamesIndex.{NamesAnswer}
 use Rattle.names.specs.declared.NamesCheck.{NamesCheck}
 use Rattle.names.specs.declared.NamesCheck.the-variants.{Sound, Faulty}
-use Rattle.term.specs.declared.Lookup.{Lookup}
-use Rattle.term.specs.declared.Lookup.the-variants.{All, Unlisted}
-use Rattle.term.proofs.Tokens.{emitted-is, names-counted}
+use Rattle.term.specs.declared.Pass.{Pass}
+use Rattle.term.specs.declared.Pass.the-variants.{Breaks, Unlisted, Taken}
 use Rattle.term.proofs.EntriesText.{entries-text}
 
 -- an answer with its list
@@ -48,60 +48,64 @@ gave-same {o} {o′} {written} {old} e g = record { answer = g .answer ∙ e; li
 -- ---- reading
 
 -- 21, 22, and the result
-module _ (names text : List ℕ) (room needed : ℕ) (e : needed ≡ length (entriesOf names text)) where
-  pub too-many-entries : 4096 < needed → refused 21 0 ≡ readFits 4096 names text room
-  too-many-entries l = rw (lt-ltb 4096 (length (entriesOf names text)) (omega arith))
+pub fits-long : (needed room : ℕ) → 4096 < needed → refused 21 0 ≡ fitsIn 4096 needed room
+fits-long needed room l = rw (lt-ltb 4096 needed l)
 
-  pub short-tree : needed ≤ 4096 → room < needed → refused 22 needed ≡ readFits 4096 names text room
-  short-tree h l = rw (le-ltb 4096 (length (entriesOf names text)) (omega arith), lt-ltb room (length (entriesOf names text)) (omega arith), e)
+pub fits-short : (needed room : ℕ) → needed ≤ 4096 → room < needed → refused 22 needed ≡ fitsIn 4096 needed room
+fits-short needed room h l = rw (le-ltb 4096 needed h, lt-ltb room needed l)
 
-  pub tree-fits : needed ≤ 4096 → needed ≤ room → result needed ≡ readFits 4096 names text room
-  tree-fits h l = rw (le-ltb 4096 (length (entriesOf names text)) (omega arith), le-ltb room (length (entriesOf names text)) (omega arith), e)
+pub fits-well : (needed room : ℕ) → needed ≤ 4096 → needed ≤ room → result needed ≡ fitsIn 4096 needed room
+fits-well needed room h l = rw (le-ltb 4096 needed h, le-ltb room needed l)
 
-pub needed-is : (names text : List ℕ) (count : ℕ) → IsTerm text → count ≡ nameCount false text → count * 2 ≡ length (entriesOf names text)
-needed-is names text count w e = omega (arith, names-counted names text w)
+-- 19 before 20
+pub unlisted-breaks : (s : Scan) (p place : ℕ) → At p ≡ placeOf s → Breaks p ≡ unlistedAt s place
+unlisted-breaks passes p place e = apart p e
+unlisted-breaks (breaksAt q) p place e = let z : p ≡ q = cc in ap Breaks z
 
-pub entered-fits : (names text : List ℕ) (n : ℕ) → IsTerm text → length (entriesOf names text) ≤ n → length (emitted names false text) ≤ n
-entered-fits names text n w l = omega (arith, ap length (emitted-is names text w))
+pub unlisted-whole : (s : Scan) (place : ℕ) → Nothing ≡ placeOf s → Unlisted place ≡ unlistedAt s place
+unlisted-whole passes place e = refl
+unlisted-whole (breaksAt q) place e = apart q (sym e)
 
-pub entered-front : (names text old new : List ℕ) → IsTerm text → Front old new (emitted names false text) → Front old new (entriesOf names text)
-entered-front names text old new w f = rw (sym (emitted-is names text w)) f
+pub cleared : Cleared (replicate 4096 0)
+cleared = record { long = length-replicate {A = ℕ} 4096 0; none = λ k l. getD-replicate {A = ℕ} 4096 k 0 0 l }
 
--- 20
-module _ {names text : List ℕ} {r : Lookup} (x : Listing names text r) (room : ℕ) where
-  pub not-listed : (p : ℕ) → r ≡ Unlisted p → refused 20 p ≡ readWhole 4096 names text room
-  not-listed p e = rw e at (x .decided (readFits 4096 names text room))
+-- 19 and 20, and what follows them
+module _ {names text entries : List ℕ} {r : Pass} (x : Passed names text entries r) (room : ℕ) (short : length text ≤ 65536) where
+  told : passThen r (readFits 4096 names text room) ≡ readNamed 4096 names text room
+  told = rw (le-ltb 65536 (length text) short) (x .decided (readFits 4096 names text room))
 
-  pub all-listed : (k : ℕ) → r ≡ All k → readFits 4096 names text room ≡ readWhole 4096 names text room
-  all-listed k e = rw e at (x .decided (readFits 4096 names text room))
+  pub told-breaks : (p : ℕ) → r ≡ Breaks p → refused 19 p ≡ readNamed 4096 names text room
+  told-breaks p e = rw e at told
 
--- 19
-broken : (s : Scan) (p : ℕ) → At p ≡ placeOf s → s ≡ breaksAt p
-broken passes p e = apart p e
-broken (breaksAt q) p e = let z : p ≡ q = cc in ap breaksAt (sym z)
+  pub told-unlisted : (p : ℕ) → r ≡ Unlisted p → refused 20 p ≡ readNamed 4096 names text room
+  told-unlisted p e = rw e at told
 
-unbroken : (s : Scan) → Nothing ≡ placeOf s → s ≡ passes
-unbroken passes e = refl
-unbroken (breaksAt q) e = apart q (sym e)
+  fits-by : (m : ℕ) → r ≡ Taken m → fitsIn 4096 m room ≡ readNamed 4096 names text room
+  fits-by m e = ap (λ (k : ℕ). fitsIn 4096 k room) (x .counted m e) ∙ rw e at told
 
-module _ (names text : List ℕ) (room : ℕ) (short : length text ≤ 65536) where
-  pub no-term : (p : ℕ) → At p ≡ placeOf (scanned text) → refused 19 p ≡ readNamed 4096 names text room
-  unfolding termThen
-  no-term p e = rw (le-ltb 65536 (length text) short, broken (scanned text) p e)
+  -- what is kept are the entries of the tree
+  kept-are : (m : ℕ) → r ≡ Taken m → m ≤ 4096 → take m entries ≡ entriesOf names text
+  kept-are m e l =
+      let h = x .held m e in
+      let n = length-take-le m entries (let w = h .long in omega arith) in
+      ext-getD 0 (take m entries) (entriesOf names text) (n ∙ x .counted m e) (λ i g. getD-take m entries i 0 (omega arith) ∙ h .same i (omega arith))
 
-  pub a-term : Nothing ≡ placeOf (scanned text) → readWhole 4096 names text room ≡ readNamed 4096 names text room
-  unfolding termThen
-  a-term e = rw (le-ltb 65536 (length text) short, unbroken (scanned text) e)
+  same-list : (m : ℕ) → r ≡ Taken m → (old : List ℕ) → lentAfter (fitsIn 4096 m room) (take m entries) old ≡ lentAfter (fitsIn 4096 m room) (entriesOf names text) old
+  same-list m e old = go (ltb 4096 m) refl
+    where
+      go : (t : Bool) → ltb 4096 m ≡ t → lentAfter (fitsIn 4096 m room) (take m entries) old ≡ lentAfter (fitsIn 4096 m room) (entriesOf names text) old
+      go true g = rw g
+      go false g = ap (λ (y : List ℕ). lentAfter (fitsIn 4096 m room) y old) (kept-are m e (ltb-false 4096 m g))
 
-pub term-is : (text : List ℕ) → Nothing ≡ placeOf (scanned text) → IsTerm text
-term-is text e = whole-term text (unbroken (scanned text) e)
+  pub told-gave : (m : ℕ) → r ≡ Taken m → {old new : List ℕ} {a : Answer} → Gave (fitsIn 4096 m room) (take m entries) old new a → Gave (readNamed 4096 names text room) (entriesOf names text) old new a
+  told-gave m e {old} g = gave-same (fits-by m e) (record { answer = g .answer; list = g .list ∙ same-list m e old })
 
 -- 18
 pub text-too-long : (names text : List ℕ) (room : ℕ) → 65536 < length text → refused 18 0 ≡ readNamed 4096 names text room
 text-too-long names text room l = rw (lt-ltb 65536 (length text) l)
 
 -- 17
-module _ {names starts heads next : List ℕ} {r : NamesCheck} (x : NamesAnswer names starts heads next r) where
+module _ {seed : ℕ} {names starts heads next : List ℕ} {r : NamesCheck} (x : NamesAnswer seed names starts heads next r) where
   pub faulty-names : (k : ℕ) (o : Outcome) → r ≡ Faulty k → refused 17 k ≡ namesThen names o
   faulty-names k o e = rw e at (x .decided o)
 

@@ -1,13 +1,11 @@
 -- Pieces put at a place of a lent list. Assumes nothing.
-use Prim.Native.Nat.{ℕ, _+_, _-_, _<_, _≤_}
+use Prim.Native.Nat.{ℕ, _+_, _<_, _≤_}
 use mathlib.Core.Path.{_≡_, refl, sym, ap, _∙_}
 use mathlib.Core.List.{List, [], _∷_, _++_, append-assoc, append-nil}
 use native.Mathlib.Omega.{arith}
-use mathlib.Core.Bool.{Bool, true, false}
-use lib.ListN.{length, take, drop, set, length-append, length-drop, length-set, take-append-drop}
+use lib.ListN.{length, take, drop, set, length-append, length-drop, take-append-drop}
 use lib.Seq.{length-take-le, drop-at, take-at, drop-drop}
 use Rattle.model.proofs.Writing.{Writing, piece-written, one-set}
-use Rattle.term.specs.Emit.{nodeEntries}
 use Rattle.term.specs.Written.{Put}
 
 -- a piece put at the next place
@@ -54,23 +52,3 @@ put-length {old} {new} {piece} {at} p l =
     let d = length-take-le at old (omega arith) in
     let e = length-drop (at + length piece) old in
     omega arith
-
--- a node's entries
-pub node-leaf : (old : List ℕ) (at s : ℕ) (leaf : Bool) → leaf ≡ true → at + length (nodeEntries s leaf) ≤ length old
-    → Put old (set (set old at s) (at + 1) 0) (nodeEntries s leaf) at (at + 2)
-node-leaf old at s leaf e l =
-    let m : at + 2 ≤ length old = rw e at l in
-    let z : at + 1 + 1 ≡ at + 2 = omega arith in
-    rw e (rw z at (put-both old (set old at s) _ (s ∷ []) (0 ∷ []) at (at + 1) (at + 1 + 1) (omega arith) (put-one old at s (omega arith)) (put-one (set old at s) (at + 1) 0 (omega (arith, length-set old at s)))))
-
-pub node-opens : (old : List ℕ) (at s : ℕ) (leaf : Bool) → leaf ≡ false → at + length (nodeEntries s leaf) ≤ length old → Put old (set old at s) (nodeEntries s leaf) at (at + 1)
-node-opens old at s leaf e l =
-    let m : at + 1 ≤ length old = rw e at l in
-    rw e (put-one old at s (omega arith))
-
-pub node-room : (n at s : ℕ) (leaf : Bool) → at + length (nodeEntries s leaf) ≤ n → at < n
-node-room n at s true l = omega arith
-node-room n at s false l = omega arith
-
-pub leaf-room : (n at s : ℕ) (leaf : Bool) → leaf ≡ true → at + length (nodeEntries s leaf) ≤ n → at + 1 < n
-leaf-room n at s leaf e l = let m : at + 2 ≤ n = rw e at l in omega arith

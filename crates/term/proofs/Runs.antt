@@ -5,25 +5,51 @@ use mathlib.Core.Bool.{Bool, true, false, _&&_, not, and-false}
 use mathlib.Core.List.{List, [], _∷_, _++_}
 use native.Mathlib.Omega.{arith}
 use native.Mathlib.Numerals.{add-one}
-use lib.ListN.{length, getD, take, drop, List·getD-append, drop-of-length-le}
-use lib.Seq.{getD-drop, take-at}
+use lib.ListN.{length, getD, take, drop, length-append, length-drop, List·getD-append}
+use lib.Seq.{drop-drop, getD-drop, take-at}
 use lib.Dec.{eqb, ltb}
 use borrow.Author.Tests.{ltb-true, ltb-false}
 use Rattle.model.specs.Choice.{if_then_else_}
 use Rattle.model.specs.Names.{isNameByte, allNameBytes, symbolOf, isListed, howManyNames}
 use Rattle.model.specs.Term.{run, nameBegins, nameAt}
 use Rattle.model.specs.TermOperations.{nameGround}
-use Rattle.model.proofs.Choice.{no-fault, fault-refused}
-use Rattle.model.proofs.Bytes.{NoByte, byte-first, byte-others, run-bytes}
+use Rattle.model.proofs.Bytes.{NoByte, end-no-byte, byte-first, byte-others, run-bytes}
 use Rattle.model.proofs.Lists.{drop-next}
 use Rattle.chains.specs.declared.Found.the-variants.{At, Nothing}
 use Rattle.names.specs.NamesIndex.{nameFound}
-use Rattle.names.proofs.Bytes.{run-more}
-use Rattle.names.proofs.Lines.{rest-is, end-byte, found-listed, not-found-listed}
-use Rattle.term.specs.Emit.{nodeEntries, emitted, nameCount}
-use Rattle.term.specs.Written.{Listing}
-use Rattle.term.specs.declared.Lookup.the-variants.{All, Unlisted}
-use Rattle.term.proofs.Tokens.{emitted-run, emitted-other, count-run, count-other}
+use Rattle.names.proofs.Lines.{found-listed, not-found-listed}
+use Rattle.term.specs.Emit.{nodeEntries, emitted}
+use Rattle.term.proofs.Tokens.{emitted-run, emitted-other}
+
+-- ---- runs of name bytes
+
+run-more : (l : List ℕ) (i : ℕ) → i < length l → isNameByte (getD l i 0) ≡ true → run (drop i l) ≡ getD l i 0 ∷ run (drop (i + 1) l)
+unfolding run
+run-more l i lt e = rw (drop-next l i lt, e)
+
+-- a run, and what comes after it
+run-split : (xs : List ℕ) → (xs ≡ run xs ++ drop (length (run xs)) xs) × (isNameByte (getD xs (length (run xs)) 0) ≡ false)
+unfolding run
+run-split [] = (refl, end-no-byte)
+run-split (b ∷ bs) = go (isNameByte b) refl (run-split bs)
+  where
+    go : (t : Bool) → isNameByte b ≡ t → (bs ≡ run bs ++ drop (length (run bs)) bs) × (isNameByte (getD bs (length (run bs)) 0) ≡ false)
+        → ((b ∷ bs) ≡ (if t then b ∷ run bs else []) ++ drop (length (if t then b ∷ run bs else [])) (b ∷ bs))
+        × (isNameByte (getD (b ∷ bs) (length (if t then b ∷ run bs else [])) 0) ≡ false)
+    go true e h = (ap (λ (x : List ℕ). b ∷ x) (h .0), h .1)
+    go false e h = (refl, e)
+
+pub run-within : (text : List ℕ) (i : ℕ) → i ≤ length text → i + length (run (drop i text)) ≤ length text
+run-within text i l =
+    let a = ap length (run-split (drop i text) .0) in
+    omega (arith, a, length-append (run (drop i text)) (drop (length (run (drop i text))) (drop i text)), length-drop i text)
+
+module _ (text : List ℕ) (i end : ℕ) (q : end ≡ i + length (run (drop i text))) where
+  pub rest-is : drop i text ≡ run (drop i text) ++ drop end text
+  rest-is = run-split (drop i text) .0 ∙ ap (λ (x : List ℕ). run (drop i text) ++ x) (drop-drop (length (run (drop i text))) i text ∙ ap (λ (k : ℕ). drop k text) (sym q))
+
+  pub end-byte : isNameByte (getD text end 0) ≡ false
+  end-byte = ap (λ (k : ℕ). isNameByte (getD text k 0)) q ∙ sym (ap (λ (x : ℕ). isNameByte x) (getD-drop i text (length (run (drop i text))) 0)) ∙ run-split (drop i text) .1
 
 -- a name byte here begins a name
 abbrev pub Fresh : List ℕ → ℕ → Type 0
@@ -59,15 +85,12 @@ module _ (names text : List ℕ) (i : ℕ) (l : i < length text) (e : isNameByte
   unfolding nameBegins
   other-fresh = rw (add-one i) (λ f. rw (e, f))
 
-  pub other-count : nameCount false (drop i text) ≡ nameCount false (drop (i + 1) text)
-  other-count = ap (λ (x : List ℕ). nameCount false x) (drop-next text i l) ∙ count-other (getD text i 0) (drop (i + 1) text) e
-
   pub other-entries : emitted names false (drop i text) ≡ (if eqb (getD text i 0) 41 then 0 ∷ [] else []) ++ emitted names false (drop (i + 1) text)
   other-entries = ap (λ (x : List ℕ). emitted names false x) (drop-next text i l) ∙ emitted-other names (getD text i 0) (drop (i + 1) text) e
 
 -- a run of name bytes
 module _ (names text : List ℕ) (i end : ℕ) (l : i < length text) (e : isNameByte (getD text i 0) ≡ true) (q : end ≡ i + length (run (drop i text))) where
-  run-is : run (drop i text) ≡ getD text i 0 ∷ run (drop (i + 1) text)
+  pub run-is : run (drop i text) ≡ getD text i 0 ∷ run (drop (i + 1) text)
   run-is = run-more text i l e
 
   pub longer : i < end
@@ -80,31 +103,22 @@ module _ (names text : List ℕ) (i end : ℕ) (l : i < length text) (e : isName
   pub part-clean : allNameBytes (take (end - i) (drop i text)) ≡ true
   part-clean = ap allNameBytes part-is ∙ run-bytes (drop i text)
 
-  after-byte : NoByte (drop end text)
+  pub after-byte : NoByte (drop end text)
   after-byte = ap (λ (x : ℕ). isNameByte x) (getD-drop end text 0 0 ∙ ap (λ (j : ℕ). getD text j 0) (let z : end + 0 ≡ end = omega arith in z)) ∙ end-byte text i end q
 
-  bytes : allNameBytes (getD text i 0 ∷ run (drop (i + 1) text)) ≡ true
-  bytes = ap (λ (x : List ℕ). allNameBytes x) (sym run-is) ∙ run-bytes (drop i text)
+  pub run-clean : allNameBytes (getD text i 0 ∷ run (drop (i + 1) text)) ≡ true
+  run-clean = ap (λ (x : List ℕ). allNameBytes x) (sym run-is) ∙ run-bytes (drop i text)
 
-  whole : drop i text ≡ (getD text i 0 ∷ run (drop (i + 1) text)) ++ drop end text
-  whole = rest-is text i end q ∙ ap (λ (x : List ℕ). x ++ drop end text) run-is
-
-  pub run-count : nameCount false (drop i text) ≡ suc (nameCount false (drop end text))
-  run-count = ap (λ (x : List ℕ). nameCount false x) whole ∙ count-run (getD text i 0) (run (drop (i + 1) text)) (drop end text) bytes after-byte
+  pub run-whole : drop i text ≡ (getD text i 0 ∷ run (drop (i + 1) text)) ++ drop end text
+  run-whole = rest-is text i end q ∙ ap (λ (x : List ℕ). x ++ drop end text) run-is
 
   pub run-entries : emitted names false (drop i text) ≡ nodeEntries (symbolOf names (nameAt text i)) (not (eqb (getD text end 0) 40)) ++ emitted names false (drop end text)
   run-entries =
       let z : getD (drop end text) 0 0 ≡ getD text end 0 = getD-drop end text 0 0 ∙ ap (λ (j : ℕ). getD text j 0) (let z : end + 0 ≡ end = omega arith in z) in
-      ap (λ (x : List ℕ). emitted names false x) whole
-      ∙ emitted-run names (getD text i 0) (run (drop (i + 1) text)) (drop end text) bytes after-byte
+      ap (λ (x : List ℕ). emitted names false x) run-whole
+      ∙ emitted-run names (getD text i 0) (run (drop (i + 1) text)) (drop end text) run-clean after-byte
       ∙ ap (λ (x : ℕ). nodeEntries (symbolOf names (getD text i 0 ∷ run (drop (i + 1) text))) (not (eqb x 40)) ++ emitted names false (drop end text)) z
       ∙ ap (λ (x : List ℕ). nodeEntries (symbolOf names x) (not (eqb (getD text end 0) 40)) ++ emitted names false (drop end text)) (sym run-is)
-
-  pub run-fresh : Fresh text end
-  run-fresh f = not-both-any (isNameByte (getD text end 0)) f (end-byte text i end q)
-    where
-      not-both-any : (b : Bool) → b ≡ true → b ≡ false → nameBegins text end ≡ true
-      not-both-any b s t = let z : _≡_ {A = ℕ} 0 1 = cc in absurd (omega arith)
 
   all-bytes : (xs : List ℕ) (k : ℕ) → allNameBytes xs ≡ true → k < length xs → isNameByte (getD xs k 0) ≡ true
   all-bytes [] k a m = absurd (omega arith)
@@ -140,40 +154,3 @@ module _ (names text : List ℕ) (i end : ℕ) (l : i < length text) (e : isName
 
   pub unlisted-ground : (n : ℕ) → n ≡ howManyNames names → Fresh text i → nameFound names n (take (end - i) (drop i text)) ≡ Nothing → nameGround names text i ≡ 20
   unlisted-ground n c h f = ground-by names text i true false (h e) (not-found-listed names (nameAt text i) n c (rw (part-is) at f))
-
--- the names before i are listed, and counted
-pub record Counted (names text : List ℕ) (count i : ℕ) : Type 0 where
-  pub within : i ≤ length text
-  pub sound : (j : ℕ) → j < i → nameGround names text j ≡ 0
-  pub counts : count + nameCount false (drop i text) ≡ nameCount false text
-  pub small : count ≤ i
-  pub fresh : Fresh text i
-
-pub counted-first : (names text : List ℕ) → Counted names text 0 0
-counted-first names text = record { within = omega arith; sound = λ j l. absurd (omega arith); counts = omega arith; small = omega arith; fresh = fresh-first text }
-
-pub counted-all : {names text : List ℕ} {count i : ℕ} → Counted names text count i → length text ≤ i → Listing names text (All count)
-unfolding nameCount
-counted-all {names} {text} {count} {i} x ge =
-    let every : (j : ℕ) → j < length text → nameGround names text j ≡ 0 = λ j l. x .sound j (omega (arith, x .within)) in
-    let z = ap (λ (xs : List ℕ). nameCount false xs) (drop-of-length-le text {i = i} ge) in
-    record {
-      decided = λ o. sym (no-fault (length text) (nameGround names text) o every);
-      none = λ k h. every;
-      counted = λ k h. sym (same h) ∙ let y : count ≡ nameCount false text = omega (arith, x .counts, z) in y;
-      few = λ k h. omega (arith, same h, x .small, x .within);
-    }
-  where
-    same : {k : ℕ} → All count ≡ All k → count ≡ k
-    same h = cc
-
-pub counted-stop : {names text : List ℕ} {count i : ℕ} → Counted names text count i → i < length text → nameGround names text i ≡ 20 → Listing names text (Unlisted i)
-counted-stop {names} {text} {count} {i} x l g = record {
-  decided = λ o. fault-refused (length text) i 20 (nameGround names text) o l (x .sound) g (omega arith);
-  none = λ k h. never h;
-  counted = λ k h. never h;
-  few = λ k h. never h;
-}
-  where
-    never : {A : Type 0} {k : ℕ} → Unlisted i ≡ All k → A
-    never h = let z : _≡_ {A = ℕ} 0 1 = cc in absurd (omega arith)

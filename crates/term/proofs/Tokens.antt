@@ -1,10 +1,9 @@
--- The entries written for a text, byte by byte, are those of its term, and two for each name.
-use Prim.Native.Nat.{ℕ, suc, _+_, _*_}
+-- The entries that a text gives, byte by byte, are those of its term.
+use Prim.Native.Nat.{ℕ}
 use mathlib.Core.Path.{_≡_, refl, ap, sym, _∙_}
 use mathlib.Core.Bool.{Bool, true, false, not}
 use mathlib.Core.List.{List, [], _∷_, _++_, append-assoc, append-nil}
-use native.Mathlib.Omega.{arith}
-use lib.ListN.{length, getD, length-append}
+use lib.ListN.{length, getD}
 use lib.Dec.{eqb}
 use Rattle.model.specs.Choice.{if_then_else_}
 use Rattle.model.specs.Names.{isLetter, isNameByte, allNameBytes, isName, symbolOf}
@@ -13,7 +12,7 @@ use Rattle.model.specs.Term.{Terms, none, term, Term, AllNames, IsTerm}
 use Rattle.model.specs.TermOperations.{symbolsOf, treeOfTerm, entriesOf}
 use Rattle.model.proofs.Bytes.{NoByte, end-no-byte, open-no-byte, close-no-byte, comma-no-byte, byte-first, byte-others, name-parts, name-bytes, run-all}
 use Rattle.model.proofs.Scan.{bracketed, following, brackets-after, comma-after, text-of, term-from}
-use Rattle.term.specs.Emit.{nodeEntries, piece, emitted, nameCount}
+use Rattle.term.specs.Emit.{nodeEntries, piece, emitted}
 
 -- where no name byte comes next, it does not matter whether one stands before
 emitted-flag : (names : List ℕ) (c : Bool) (ys : List ℕ) → NoByte ys → emitted names c ys ≡ emitted names false ys
@@ -21,21 +20,11 @@ unfolding emitted piece
 emitted-flag names c [] e = refl
 emitted-flag names c (y ∷ ys) e = rw e
 
-count-flag : (c : Bool) (ys : List ℕ) → NoByte ys → nameCount c ys ≡ nameCount false ys
-unfolding nameCount
-count-flag c [] e = refl
-count-flag c (y ∷ ys) e = rw e
-
 -- a name's later bytes
 emitted-rest : (names bs ys : List ℕ) → allNameBytes bs ≡ true → NoByte ys → emitted names true (bs ++ ys) ≡ emitted names false ys
 unfolding emitted piece
 emitted-rest names [] ys a e = emitted-flag names true ys e
 emitted-rest names (b ∷ bs) ys a e = rw (byte-first b bs a) (emitted-rest names bs ys (byte-others b bs a) e)
-
-count-rest : (bs ys : List ℕ) → allNameBytes bs ≡ true → NoByte ys → nameCount true (bs ++ ys) ≡ nameCount false ys
-unfolding nameCount
-count-rest [] ys a e = count-flag true ys e
-count-rest (b ∷ bs) ys a e = rw (byte-first b bs a) (omega (arith, count-rest bs ys (byte-others b bs a) e))
 
 getD-after : (bs ys : List ℕ) → getD (bs ++ ys) (length bs) 0 ≡ getD ys 0 0
 getD-after [] ys = refl
@@ -48,21 +37,12 @@ unfolding emitted piece
 emitted-run names b bs ys a e =
     rw (byte-first b bs a, run-all bs ys (byte-others b bs a) e, getD-after bs ys, emitted-rest names bs ys (byte-others b bs a) e)
 
-pub count-run : (b : ℕ) (bs ys : List ℕ) → allNameBytes (b ∷ bs) ≡ true → NoByte ys → nameCount false ((b ∷ bs) ++ ys) ≡ suc (nameCount false ys)
-unfolding nameCount
-count-run b bs ys a e = rw (byte-first b bs a) (omega (arith, count-rest bs ys (byte-others b bs a) e))
-
 -- a name
 emitted-name : (names n ys : List ℕ) → isName n ≡ true → NoByte ys
     → emitted names false (n ++ ys) ≡ nodeEntries (symbolOf names n) (not (eqb (getD ys 0 0) 40)) ++ emitted names false ys
 emitted-name names n ys a e =
     let i = name-parts n a in
     rw (i .is) (emitted-run names (i .first) (i .others) ys (rw (i .is) at (name-bytes n a)) e)
-
-count-name : (n ys : List ℕ) → isName n ≡ true → NoByte ys → nameCount false (n ++ ys) ≡ suc (nameCount false ys)
-count-name n ys a e =
-    let i = name-parts n a in
-    rw (i .is) (count-run (i .first) (i .others) ys (rw (i .is) at (name-bytes n a)) e)
 
 -- a byte that is no name byte
 pub emitted-other : (names : List ℕ) (b : ℕ) (ys : List ℕ) → isNameByte b ≡ false → emitted names false (b ∷ ys) ≡ (if eqb b 41 then 0 ∷ [] else []) ++ emitted names false ys
@@ -81,10 +61,6 @@ emitted-close names ys = refl
 emitted-comma : (names ys : List ℕ) → emitted names false (44 ∷ ys) ≡ emitted names false ys
 unfolding emitted piece isNameByte isLetter
 emitted-comma names ys = refl
-
-pub count-other : (b : ℕ) (ys : List ℕ) → isNameByte b ≡ false → nameCount false (b ∷ ys) ≡ nameCount false ys
-unfolding nameCount
-count-other b ys e = rw e (omega arith)
 
 -- what may follow terms: no name byte and no `(`
 record After (ys : List ℕ) : Type 0 where
@@ -140,35 +116,6 @@ mutual
       ∙ u ∙ ap (λ (l : List ℕ). symbolOf names n ∷ f ++ 0 ∷ l) v
       ∙ ap (λ (l : List ℕ). symbolOf names n ∷ l) (sym (append-assoc f (0 ∷ g) (emitted names false ys)))
 
-mutual
-  unfolding AllNames symbolsOf serialForest
-
-  count-term : (k : Terms) (names n ys : List ℕ) → isName n ≡ true → AllNames k → After ys
-      → 2 * nameCount false (n ++ (bracketed k ++ ys)) ≡ 2 + length (serialForest (symbolsOf names k)) + 2 * nameCount false ys
-  count-term none names n ys e a s = omega (arith, count-name n ys e (s .byte))
-  count-term (term m k r) names n ys e a s =
-      let xs = following r ++ 41 ∷ ys in
-      let f = serialForest (symbolsOf names k) in
-      let g = serialForest (symbolsOf names r) in
-      let u = count-term k names m xs (a .0) (a .1) (after-following r (41 ∷ ys) (after-close ys)) in
-      let v = count-following r names (41 ∷ ys) (a .2) (after-close ys) in
-      let w = ap (λ (l : List ℕ). nameCount false (n ++ l)) (brackets-after m k r ys) in
-      let x = count-name n (40 ∷ (m ++ (bracketed k ++ xs))) e open-no-byte in
-      let y = count-other 40 (m ++ (bracketed k ++ xs)) open-no-byte in
-      omega (arith, count-other 41 ys close-no-byte, length-append f (0 ∷ g))
-
-  count-following : (r : Terms) (names ys : List ℕ) → AllNames r → After ys
-      → 2 * nameCount false (following r ++ ys) ≡ length (serialForest (symbolsOf names r)) + 2 * nameCount false ys
-  count-following none names ys a s = omega arith
-  count-following (term n k r) names ys a s =
-      let f = serialForest (symbolsOf names k) in
-      let g = serialForest (symbolsOf names r) in
-      let u = count-term k names n (following r ++ ys) (a .0) (a .1) (after-following r ys s) in
-      let v = count-following r names ys (a .2) s in
-      let w = ap (nameCount false) (comma-after n k r ys) in
-      let x = count-other 44 (n ++ (bracketed k ++ (following r ++ ys))) comma-no-byte in
-      omega (arith, length-append f (0 ∷ g))
-
 -- a text, by its term
 text-parts : (text : List ℕ) (w : IsTerm text) → text ≡ w .is .name ++ (bracketed (w .is .inner) ++ [])
 text-parts text w = sym (w .written) ∙ text-of (w .is) ∙ ap (λ (l : List ℕ). w .is .name ++ l) (sym (append-nil (bracketed (w .is .inner))))
@@ -182,11 +129,7 @@ emitted-end : (names : List ℕ) → emitted names false [] ≡ []
 unfolding emitted
 emitted-end names = refl
 
-count-end : nameCount false [] ≡ 0
-unfolding nameCount
-count-end = refl
-
--- what is written for a term is the entries of its tree
+-- what a term gives is the entries of its tree
 pub emitted-is : (names text : List ℕ) → IsTerm text → emitted names false text ≡ entriesOf names text
 unfolding AllNames
 emitted-is names text w =
@@ -196,18 +139,3 @@ emitted-is names text w =
     ∙ emitted-term k names n [] (w .names .0) (w .names .1) after-end
     ∙ ap (λ (l : List ℕ). symbolOf names n ∷ serialForest (symbolsOf names k) ++ 0 ∷ l) (emitted-end names)
     ∙ sym (entries-parts names text w)
-
--- there are two entries for each name
-pub names-counted : (names text : List ℕ) → IsTerm text → length (entriesOf names text) ≡ 2 * nameCount false text
-unfolding AllNames
-names-counted names text w =
-    let n = w .is .name in
-    let f = serialForest (symbolsOf names (w .is .inner)) in
-    omega (
-      arith,
-      count-term (w .is .inner) names n [] (w .names .0) (w .names .1) after-end,
-      count-end,
-      ap (nameCount false) (text-parts text w),
-      ap length (entries-parts names text w),
-      length-append f (0 ∷ []),
-    )

@@ -1,6 +1,6 @@
 -- What the loops write for a text and for the entries of a tree, item by item. Assumes nothing: these are definitions.
-use Prim.Native.Nat.{ℕ, _+_}
-use mathlib.Core.Bool.{Bool, _&&_, not}
+use Prim.Native.Nat.{ℕ}
+use mathlib.Core.Bool.{Bool, not}
 use mathlib.Core.List.{List, [], _∷_, _++_}
 use lib.ListN.{getD, length}
 use lib.Dec.{eqb}
@@ -24,17 +24,16 @@ unfoldable pub emitted : (names : List ℕ) (inName : Bool) → List ℕ → Lis
 emitted names inName [] = []
 emitted names inName (b ∷ bs) = piece names inName b bs ++ emitted names (isNameByte b) bs
 
--- how many names begin among the bytes
-unfoldable pub nameCount : (inName : Bool) → List ℕ → ℕ
-nameCount inName [] = 0
-nameCount inName (b ∷ bs) = (if isNameByte b && not inName then 1 else 0) + nameCount (isNameByte b) bs
-
 -- the bytes that an entry gives. A symbol gives its name, with the separator `mark` before it: `(` after a symbol, `,` after a bar, none (0) at
 -- the front. A bar gives `)` after a bar, and nothing after a symbol
 unfoldable pub entryText : (names : List ℕ) (mark e : ℕ) → List ℕ
 entryText names mark e =
     if eqb e 0 then (if eqb mark 44 then 41 ∷ [] else []) else
     (if eqb mark 0 then [] else mark ∷ []) ++ nameOf names e
+
+-- 1 for a bar after a bar: it gives `)`
+unfoldable pub closing : (mark e : ℕ) → ℕ
+closing mark e = if eqb e 0 then (if eqb mark 44 then 1 else 0) else 0
 
 -- the separator before a name that follows this entry
 abbrev pub markAfter : ℕ → ℕ

@@ -1,43 +1,25 @@
 -- What the parts of reading and writing a term promise. Assumes nothing: these are definitions.
 use Prim.Native.Nat.{ℕ, _+_, _<_, _≤_}
 use mathlib.Core.Path.{_≡_}
-use mathlib.Core.Bool.{false}
 use mathlib.Core.List.{List, _++_}
 use lib.ListN.{length, getD, take, drop}
-use Rattle.model.specs.Answers.{Outcome, refused, outcome, lentAfter}
-use Rattle.model.specs.Choice.{firstFaulty}
-use Rattle.model.specs.Names.{howManyNames}
-use Rattle.model.specs.TermOperations.{entriesOf, bytesOf, nameGround, readTermOutcome, writeTermOutcome, readTermList, writeTermList}
+use Rattle.model.specs.Answers.{Outcome, outcome, lentAfter}
+use Rattle.model.specs.TermOperations.{entriesOf, bytesOf, readTermOutcome, writeTermOutcome, readTermList, writeTermList}
 use Rattle.model.specs.declared.Answer.{Answer}
-use Rattle.term.specs.Emit.{nameCount}
-use Rattle.term.specs.declared.Lookup.{Lookup}
-use Rattle.term.specs.declared.Lookup.the-variants.{All, Unlisted}
+use Rattle.words.specs.Words.{Placed}
 
 -- a piece is put at a place, and the next place comes after it
 pub record Put (old new piece : List ℕ) (at next : ℕ) : Type 0 where
   pub holds : new ≡ take at old ++ piece ++ drop (at + length piece) old
   pub after : next ≡ at + length piece
 
+-- the first n bytes are put at a place, and the other items of the list stay
+abbrev pub Copied : (n : ℕ) (old new : List ℕ) (at : ℕ) (bytes : List ℕ) → Type 0
+Copied n old new at bytes = Placed n old new at (λ k. getD bytes k 0)
+
 -- the list begins with what is written, and the rest stays
 pub record Front (old new written : List ℕ) : Type 0 where
   pub holds : new ≡ written ++ drop (length written) old
-
--- refusal 20, or what follows where every name is listed
-abbrev pub lookupThen : Lookup → Outcome → Outcome
-lookupThen (All count) otherwise = otherwise
-lookupThen (Unlisted place) otherwise = refused 20 place
-
--- the answer decides 20; where every name is listed, it counts them
-pub record Listing (names text : List ℕ) (r : Lookup) : Type 0 where
-  pub decided : (o : Outcome) → lookupThen r o ≡ firstFaulty (length text) (nameGround names text) o
-  pub none : (k : ℕ) → r ≡ All k → (i : ℕ) → i < length text → nameGround names text i ≡ 0
-  pub counted : (k : ℕ) → r ≡ All k → k ≡ nameCount false text
-  pub few : (k : ℕ) → r ≡ All k → k ≤ length text
-
--- every name in the text is on one of the first n lines
-pub record NamesListed (names : List ℕ) (n : ℕ) (text : List ℕ) : Type 0 where
-  pub all : n ≡ howManyNames names
-  pub none : (i : ℕ) → i < length text → nameGround names text i ≡ 0
 
 -- every entry is at most n
 pub record EntriesNamed (n : ℕ) (tree : List ℕ) : Type 0 where

@@ -7,73 +7,45 @@ use model::refused_answer;
 use names::NamesCheck;
 use names::check_names;
 use names::find_name;
-use names::is_name_byte;
+use names::list_seed;
 use names::name_at;
-use names::run_end;
+use names::stretch_at;
 use scan::scan_text;
 use tree::Form;
 use tree::check_tree;
+use words::four_at;
+use words::put_four;
+use words::put_word;
+use words::word_at;
 ghost use mathlib.Core.Path.{_≡_};
 ghost use mathlib.Core.Bool.{false};
-ghost use Prim.Native.Nat.{_+_, _<_, _≤_};
-ghost use lib.ListN.{length, getD};
+ghost use Prim.Native.Nat.{_+_, _-_, _<_, _≤_};
+ghost use lib.ListN.{length, getD, take};
 ghost use lib.Dec.{ltb, eqb};
-ghost use Rattle.model.specs.Names.{howManyNames};
-ghost use Rattle.model.specs.Term.{IsTerm};
+ghost use Rattle.model.specs.Names.{isNameByte, howManyNames};
 ghost use Rattle.model.specs.Tree.{WellFormed};
-ghost use Rattle.model.specs.TermOperations.{readFits, readWhole, readNamed, writeFits, writeFormed, writeNamed};
+ghost use Rattle.model.specs.TermOperations.{fitsIn, readNamed, writeFits, writeFormed, writeNamed};
 ghost use Rattle.chains.specs.First.{firstWith};
 ghost use Rattle.names.specs.NamesIndex.{NamesIndexed, Lined};
-ghost use Rattle.term.specs.Emit.{nodeEntries, emitted, nameCount, entryText, markAfter, entriesText};
-ghost use Rattle.term.specs.Written.{Put, Front, Listing, NamesListed, EntriesNamed, ReadBy, WriteBy, ReadTerm, WriteTerm};
+ghost use Rattle.scan.specs.TextState.{scanned};
+ghost use Rattle.term.specs.Emit.{entryText, closing, markAfter, entriesText};
+ghost use Rattle.term.specs.Written.{Put, Copied, Front, EntriesNamed, Gave, ReadBy, WriteBy, ReadTerm, WriteTerm};
+ghost use Rattle.term.specs.Pass.{Closing, Follows, unlistedAt, SymbolPut, Cleared, Passed};
 
-// What looking up the names in a text finds: all are listed, and how many there are; or where the first that is not listed begins.
-pub enum Lookup {
-    All(usize),
+// What follows a name: another name is due at a place, with so many brackets open, after so many bars; the text ends, after so many bars; or it
+// stops being a term at a place.
+pub enum After {
+    Name(usize, usize, usize),
+    Ends(usize),
+    Breaks(usize),
+}
+
+// What reading a text finds: where it stops being a term; that it is one, and where the first name that is not listed begins; or how many entries
+// its tree has.
+pub enum Pass {
+    Breaks(usize),
     Unlisted(usize),
-}
-
-// Looks up every name in the text.
-fn list_names(
-    names: &[u8],
-    starts: &[u16; 256],
-    heads: &[u16; 512],
-    next: &[u16; 256],
-    n: usize,
-    text: &[u8],
-) -> Lookup
-    requires { ⌜ NamesIndexed (now names) (now starts) (now heads) (now next) n ⌝ }
-    requires { ⌜ n ≡ howManyNames (now names) ⌝ }
-    ensures { λ r. ⌜ Listing (now (names .entry)) (now (text .entry)) r ⌝ }
-{
-    let mut count: usize = 0;
-    let mut i: usize = 0;
-    while i < text.len() {
-        if is_name_byte(text[i]) {
-            let end = run_end(text, i);
-            let Found::At(_) = find_name(names, starts, heads, next, n, &text[i..end]) else {
-                return Lookup::Unlisted(i);
-            };
-            count += 1;
-            i = end;
-        } else {
-            i += 1;
-        }
-    }
-    Lookup::All(count)
-}
-
-// Puts a node's symbol and, for a leaf, its bar; gives the place after them.
-fn put_node(tree: &mut [u16], at: usize, symbol: u16, leaf: bool) -> usize
-    requires { ⌜ at + length (nodeEntries symbol leaf) ≤ length (now tree) ⌝ }
-    ensures { λ r. ⌜ Put (now (tree .entry)) (now (tree .exit)) (nodeEntries symbol leaf) at r ⌝ }
-{
-    tree[at] = symbol;
-    if leaf {
-        tree[at + 1] = 0;
-        return at + 2;
-    }
-    at + 1
+    Taken(usize),
 }
 
 // Whether the byte at a place is `(`.
@@ -86,94 +58,155 @@ fn opens(text: &[u8], at: usize) -> bool
     false
 }
 
-// Puts the entries of the text's tree at the front of the list.
-fn put_entries(
+// How many `)` stand at a place, no more than brackets are open.
+fn closes(text: &[u8], at: usize, depth: usize) -> usize
+    requires { ⌜ at ≤ length (now text) ⌝ }
+    ensures { λ r. ⌜ Closing (now (text .entry)) at depth r ⌝ }
+{
+    let mut c: usize = 0;
+    while c < depth {
+        if text.len() <= at + c {
+            return c;
+        }
+        if text[at + c] != b')' {
+            return c;
+        }
+        c += 1;
+    }
+    c
+}
+
+// What follows the name that ends at a place.
+fn after_name(text: &[u8], end: usize, depth: usize) -> After
+    requires { ⌜ (end ≤ length (now text)) × (isNameByte (getD (now text) end 0) ≡ false) × (depth ≤ 65536) ⌝ }
+    ensures { λ r. ⌜ Follows (now (text .entry)) end depth r ⌝ }
+{
+    if opens(text, end) {
+        return After::Name(end + 1, depth + 1, 0);
+    }
+    let c = closes(text, end, depth);
+    let i = end + c;
+    if i == text.len() {
+        if depth == c {
+            return After::Ends(c + 1);
+        }
+        return After::Breaks(i);
+    }
+    if depth == c {
+        return After::Breaks(i);
+    }
+    if text[i] == b',' {
+        return After::Name(i + 1, depth - c, c + 1);
+    }
+    After::Breaks(i)
+}
+
+// What stands at a place is not listed: 20 where the whole text is a term, and else 19 where it stops being one.
+fn unlisted(text: &[u8], place: usize) -> Pass
+    requires { ⌜ length (now text) ≤ 65536 ⌝ }
+    ensures { λ r. ⌜ r ≡ unlistedAt (scanned (now (text .entry))) place ⌝ }
+{
+    match scan_text(text) {
+        Found::At(p) => Pass::Breaks(p),
+        Found::Nothing => Pass::Unlisted(place),
+    }
+}
+
+// Keeps a symbol, where there is room.
+fn put_symbol(entries: &mut [u8; 4096], at: usize, symbol: u8)
+    requires { ⌜ length (now entries) ≡ 4096 ⌝ }
+    ensures { λ r. ⌜ SymbolPut (now (entries .entry)) (now (entries .exit)) at symbol ⌝ }
+{
+    if at < 4096 {
+        entries[at] = symbol;
+    }
+}
+
+// Reads the text, and keeps the entries of its tree, as many as there is room for. The bars are there: the array is cleared. What is looked up is
+// the stretch of bytes from `-` to `z`: if it is listed it is a name, and if not the scan decides.
+fn read_text(
     names: &[u8],
+    seed: u64,
     starts: &[u16; 256],
     heads: &[u16; 512],
     next: &[u16; 256],
     n: usize,
     text: &[u8],
-    tree: &mut [u16],
-)
-    requires { ⌜ NamesIndexed (now names) (now starts) (now heads) (now next) n ⌝ }
-    requires { ⌜ NamesListed (now names) n (now text) ⌝ }
-    requires { ⌜ length (emitted (now names) false (now text)) ≤ length (now tree) ⌝ }
-    ensures { λ r. ⌜ Front (now (tree .entry)) (now (tree .exit)) (emitted (now (names .entry)) false (now (text .entry))) ⌝ }
+    entries: &mut [u8; 4096],
+) -> Pass
+    requires { ⌜ NamesIndexed seed (now names) (now starts) (now heads) (now next) n ⌝ }
+    requires { ⌜ n ≡ howManyNames (now names) ⌝ }
+    requires { ⌜ (length (now text) ≤ 65536) × Cleared (now entries) ⌝ }
+    ensures { λ r. ⌜ Passed (now (names .entry)) (now (text .entry)) (now (entries .exit)) r ⌝ }
 {
     let mut at: usize = 0;
+    let mut depth: usize = 0;
     let mut i: usize = 0;
-    while i < text.len() {
-        let b = text[i];
-        if is_name_byte(b) {
-            let end = run_end(text, i);
-            let Found::At(k) = find_name(names, starts, heads, next, n, &text[i..end]) else {
-                return;
-            };
-            at = put_node(&mut *tree, at, (k + 1) as u16, !opens(text, end));
-            i = end;
-        } else if b == b')' {
-            tree[at] = 0;
-            at += 1;
-            i += 1;
-        } else {
-            i += 1;
+    loop {
+        let stretch = stretch_at(text, i, seed);
+        let end = stretch.end;
+        match find_name(names, starts, heads, next, n, stretch.bucket, &text[i..end]) {
+            Found::Nothing => {
+                return unlisted(text, i);
+            }
+            Found::At(k) => {
+                put_symbol(&mut *entries, at, (k + 1) as u8);
+                match after_name(text, end, depth) {
+                    After::Breaks(place) => {
+                        return Pass::Breaks(place);
+                    }
+                    After::Ends(bars) => {
+                        return Pass::Taken(at + 1 + bars);
+                    }
+                    After::Name(place, open, bars) => {
+                        at = at + 1 + bars;
+                        depth = open;
+                        i = place;
+                    }
+                }
+            }
         }
     }
 }
 
-// Writes the tree of a term whose names are all listed, where it is not too long and there is room.
-fn enter_tree(
-    names: &[u8],
-    starts: &[u16; 256],
-    heads: &[u16; 512],
-    next: &[u16; 256],
-    n: usize,
-    text: &[u8],
-    count: usize,
-    tree: &mut [u16],
-) -> Answer
-    requires { ⌜ NamesIndexed (now names) (now starts) (now heads) (now next) n ⌝ }
-    requires { ⌜ NamesListed (now names) n (now text) ⌝ }
-    requires { ⌜ IsTerm (now text) ⌝ }
-    requires { ⌜ (count ≡ nameCount false (now text)) × (count ≤ 65536) ⌝ }
-    ensures { λ r. ⌜ ReadBy (readFits 4096) (now (names .entry)) (now (text .entry)) (now (tree .entry)) (now (tree .exit)) r ⌝ }
+// A kept entry as an entry of the lent list.
+fn entry_of(x: u8) -> u16
+    ensures { λ r. ⌜ r ≡ x ⌝ }
 {
-    let needed = count * 2;
+    x as u16
+}
+
+// Puts the first entries, so many, at the front of the list.
+fn put_front(entries: &[u8; 4096], count: usize, tree: &mut [u16])
+    requires { ⌜ (length (now entries) ≡ 4096) × (count ≤ 4096) × (count ≤ length (now tree)) ⌝ }
+    ensures { λ r. ⌜ Front (now (tree .entry)) (now (tree .exit)) (take count (now (entries .entry))) ⌝ }
+{
+    let mut i: usize = 0;
+    while i < count {
+        tree[i] = entry_of(entries[i]);
+        i += 1;
+    }
+}
+
+// Puts the entries at the front of the list, where they are not too many and there is room.
+fn put_tree(entries: &[u8; 4096], needed: usize, tree: &mut [u16]) -> Answer
+    requires { ⌜ length (now entries) ≡ 4096 ⌝ }
+    ensures { λ r. ⌜ Gave (fitsIn 4096 needed (length (now (tree .entry)))) (take needed (now (entries .entry))) (now (tree .entry)) (now (tree .exit)) r ⌝ }
+{
     if 4096 < needed {
         return refused_answer(Kind::TermTreeTooLong, 0);
     }
     if tree.len() < needed {
         return refused_answer(Kind::ShortTermTree, needed as u64);
     }
-    put_entries(names, starts, heads, next, n, text, tree);
+    put_front(entries, needed, tree);
     Answer::Result(needed as u64)
-}
-
-// Reads a text that is a term.
-fn read_whole(
-    names: &[u8],
-    starts: &[u16; 256],
-    heads: &[u16; 512],
-    next: &[u16; 256],
-    n: usize,
-    text: &[u8],
-    tree: &mut [u16],
-) -> Answer
-    requires { ⌜ NamesIndexed (now names) (now starts) (now heads) (now next) n ⌝ }
-    requires { ⌜ n ≡ howManyNames (now names) ⌝ }
-    requires { ⌜ IsTerm (now text) × (length (now text) ≤ 65536) ⌝ }
-    ensures { λ r. ⌜ ReadBy (readWhole 4096) (now (names .entry)) (now (text .entry)) (now (tree .entry)) (now (tree .exit)) r ⌝ }
-{
-    match list_names(names, starts, heads, next, n, text) {
-        Lookup::Unlisted(place) => refused_answer(Kind::UnlistedName, place as u64),
-        Lookup::All(count) => enter_tree(names, starts, heads, next, n, text, count, tree),
-    }
 }
 
 // Reads a text by a names list that keeps to the rules.
 fn read_named(
     names: &[u8],
+    seed: u64,
     starts: &[u16; 256],
     heads: &[u16; 512],
     next: &[u16; 256],
@@ -181,16 +214,18 @@ fn read_named(
     text: &[u8],
     tree: &mut [u16],
 ) -> Answer
-    requires { ⌜ NamesIndexed (now names) (now starts) (now heads) (now next) n ⌝ }
+    requires { ⌜ NamesIndexed seed (now names) (now starts) (now heads) (now next) n ⌝ }
     requires { ⌜ n ≡ howManyNames (now names) ⌝ }
     ensures { λ r. ⌜ ReadBy (readNamed 4096) (now (names .entry)) (now (text .entry)) (now (tree .entry)) (now (tree .exit)) r ⌝ }
 {
     if 65536 < text.len() {
         return refused_answer(Kind::TextTooLong, 0);
     }
-    match scan_text(text) {
-        Found::At(place) => refused_answer(Kind::NotATerm, place as u64),
-        Found::Nothing => read_whole(names, starts, heads, next, n, text, tree),
+    let mut entries = [0u8; 4096];
+    match read_text(names, seed, starts, heads, next, n, text, &mut entries) {
+        Pass::Breaks(place) => refused_answer(Kind::NotATerm, place as u64),
+        Pass::Unlisted(place) => refused_answer(Kind::UnlistedName, place as u64),
+        Pass::Taken(needed) => put_tree(&entries, needed, tree),
     }
 }
 
@@ -201,9 +236,10 @@ pub fn read_term(names: &[u8], text: &[u8], tree: &mut [u16]) -> Answer
     let mut starts = [0u16; 256];
     let mut heads = [0u16; 512];
     let mut next = [0u16; 256];
-    match check_names(names, &mut starts, &mut heads, &mut next) {
+    let seed = list_seed(names);
+    match check_names(names, seed, &mut starts, &mut heads, &mut next) {
         NamesCheck::Faulty(line) => refused_answer(Kind::FaultyNames, line as u64),
-        NamesCheck::Sound(n) => read_named(names, &starts, &heads, &next, n, text, tree),
+        NamesCheck::Sound(n) => read_named(names, seed, &starts, &heads, &next, n, text, tree),
     }
 }
 
@@ -231,23 +267,51 @@ fn mark_after(e: u16) -> u8
     b'('
 }
 
-// How many bytes an entry gives; `mark` is the separator before a name that stands here, 0 at the front of the text.
-fn entry_length(names: &[u8], starts: &[u16; 256], n: usize, mark: u8, e: u16) -> usize
-    requires { ⌜ Lined (now names) (now starts) n ⌝ }
-    requires { ⌜ e ≤ n ⌝ }
-    ensures { λ r. ⌜ (r ≡ length (entryText (now (names .entry)) mark e)) × (r ≤ 25) ⌝ }
+// The line of a symbol's name, the first being line 0; 0 for a bar too.
+fn line_before(e: u16) -> usize
+    ensures { λ r. ⌜ r ≡ e - 1 ⌝ }
+{
+    if e == 0 {
+        return 0;
+    }
+    wide(e) - 1
+}
+
+// 1 for a bar after a bar: it gives `)`.
+fn closing_length(mark: u8, e: u16) -> usize
+    ensures { λ r. ⌜ r ≡ closing mark e ⌝ }
 {
     if e == 0 {
         if mark == b',' {
             return 1;
         }
+    }
+    0
+}
+
+// How many bytes the entry at the front gives.
+fn first_length(names: &[u8], starts: &[u16; 256], n: usize, e: u16) -> usize
+    requires { ⌜ Lined (now names) (now starts) n ⌝ }
+    requires { ⌜ e ≤ n ⌝ }
+    ensures { λ r. ⌜ (r ≡ length (entryText (now (names .entry)) 0 e)) × (r ≤ 25) ⌝ }
+{
+    if e == 0 {
         return 0;
     }
-    let bytes = name_at(names, starts, n, wide(e) - 1).len();
+    name_at(names, starts, n, wide(e) - 1).len()
+}
+
+// How many bytes an entry gives; `mark` is the separator before a name that stands here, 0 at the front of the text. A line has one byte more than
+// its name, where the text has the separator.
+fn entry_length(names: &[u8], starts: &[u16; 256], n: usize, mark: u8, e: u16) -> usize
+    requires { ⌜ Lined (now names) (now starts) n ⌝ }
+    requires { ⌜ e ≤ n ⌝ }
+    ensures { λ r. ⌜ (r ≡ length (entryText (now (names .entry)) mark e)) × (r ≤ 25) ⌝ }
+{
     if mark == 0 {
-        return bytes;
+        return first_length(names, starts, n, e);
     }
-    bytes + 1
+    wide(starts[wide(e)]) - wide(starts[line_before(e)]) + closing_length(mark, e)
 }
 
 // How many bytes the tree's term has.
@@ -268,17 +332,58 @@ fn text_length(names: &[u8], starts: &[u16; 256], n: usize, tree: &[u16]) -> usi
     sum
 }
 
-// Puts the bytes at a place; gives the place after them.
-pub fn put_bytes(text: &mut [u8], at: usize, bytes: &[u8]) -> usize
+// Puts bytes at a place one by one.
+fn put_few(text: &mut [u8], at: usize, bytes: &[u8])
     requires { ⌜ at + length (now bytes) ≤ length (now text) ⌝ }
-    ensures { λ r. ⌜ Put (now (text .entry)) (now (text .exit)) (now (bytes .entry)) at r ⌝ }
+    ensures { λ r. ⌜ Copied (length (now (bytes .entry))) (now (text .entry)) (now (text .exit)) at (now (bytes .entry)) ⌝ }
 {
     let mut i: usize = 0;
     while i < bytes.len() {
         text[at + i] = bytes[i];
         i += 1;
     }
-    at + i
+}
+
+// Puts four to eight bytes: the first four, and the last four, which may overlap them.
+fn put_fours(text: &mut [u8], at: usize, bytes: &[u8])
+    requires { ⌜ (4 ≤ length (now bytes)) × (length (now bytes) ≤ 8) × (at + length (now bytes) ≤ length (now text)) ⌝ }
+    ensures { λ r. ⌜ Copied (length (now (bytes .entry))) (now (text .entry)) (now (text .exit)) at (now (bytes .entry)) ⌝ }
+{
+    let last = bytes.len() - 4;
+    put_four(&mut *text, at, four_at(bytes, 0));
+    put_four(text, at + last, four_at(bytes, last));
+}
+
+// Puts eight bytes or more by words; the last eight may overlap the word before them.
+fn put_long(text: &mut [u8], at: usize, bytes: &[u8])
+    requires { ⌜ (8 ≤ length (now bytes)) × (at + length (now bytes) ≤ length (now text)) ⌝ }
+    ensures { λ r. ⌜ Copied (length (now (bytes .entry))) (now (text .entry)) (now (text .exit)) at (now (bytes .entry)) ⌝ }
+{
+    let last = bytes.len() - 8;
+    let mut i: usize = 0;
+    while i < last {
+        put_word(&mut *text, at + i, word_at(bytes, i));
+        i += 8;
+    }
+    put_word(text, at + last, word_at(bytes, last));
+}
+
+// Puts the bytes at a place; gives the place after them.
+pub fn put_bytes(text: &mut [u8], at: usize, bytes: &[u8]) -> usize
+    requires { ⌜ at + length (now bytes) ≤ length (now text) ⌝ }
+    ensures { λ r. ⌜ Put (now (text .entry)) (now (text .exit)) (now (bytes .entry)) at r ⌝ }
+{
+    let after = at + bytes.len();
+    if 8 <= bytes.len() {
+        put_long(text, at, bytes);
+        return after;
+    }
+    if 4 <= bytes.len() {
+        put_fours(text, at, bytes);
+        return after;
+    }
+    put_few(text, at, bytes);
+    after
 }
 
 // Puts the bytes that an entry gives at a place; gives the place after them.
@@ -388,7 +493,8 @@ pub fn write_term(names: &[u8], tree: &[u16], text: &mut [u8]) -> Answer
     let mut starts = [0u16; 256];
     let mut heads = [0u16; 512];
     let mut next = [0u16; 256];
-    match check_names(names, &mut starts, &mut heads, &mut next) {
+    let seed = list_seed(names);
+    match check_names(names, seed, &mut starts, &mut heads, &mut next) {
         NamesCheck::Faulty(line) => refused_answer(Kind::FaultyNames, line as u64),
         NamesCheck::Sound(n) => write_named(names, &starts, n, tree, text),
     }

@@ -1,48 +1,52 @@
+use Prim.Native.Nat.{ℕ, _-_}
 use native.Mathlib.Omega.{arith}
-use native.Mathlib.Nat.{pos-of-ne-zero}
-use mathlib.Core.Path.{_≡_, sym, ap, _∙_}
-use lib.ListN.{length}
-use Rattle.model.specs.Names.{nameOf}
-use Rattle.term.proofs.EntryText.{letter-close, letter-bar, letter-name, letter-mark, name-line, name-short}
+use mathlib.Core.Path.{_≡_, ap, _∙_}
+use lib.ListN.{length, getD}
+use Rattle.term.specs.Emit.{entryText}
+use Rattle.term.proofs.EntryText.{line-from, line-length}
 use borrow.Author.Needs.{needs}
 use Rattle.term.proofs.entry_length.Statement.{statement}
 use Rattle.term.proofs.entry_length.Tie as tie
 
--- the name on the symbol's line
-name : (c : tie.After-name-at) → c .name-at .result .now ≡ nameOf (c .before .before .before .before .args .names .now) (c .before .before .before .before .args .e)
-name c = c .name-at .ensures ∙ name-line _ _ _ (c .before .wide .ensures)
+abbrev start : tie.After-wide3 → tie.Start
+start c = c .before .before .before .before .before .before .before .before
+
+-- where the next line begins, and where the entry's does
+next : (c : tie.After-wide3) → c .before .before .before .wide2 .result ≡ getD (start c .args .starts .now) (start c .args .e) 0
+next c =
+    c .before .before .before .wide2 .ensures
+    ∙ ap (λ (k : ℕ). getD (start c .args .starts .now) k 0) (c .before .before .before .before .before .wide .ensures)
+
+from : (c : tie.After-wide3) → c .wide3 .result ≡ getD (start c .args .starts .now) (start c .args .e - 1) 0
+from c = c .wide3 .ensures ∙ ap (λ (k : ℕ). getD (start c .args .starts .now) k 0) (c .before .before .line-before .ensures)
 
 returns : tie.Need-returns
-returns c = (sym (ap length (letter-close _ _ _ (c .before .if1 .taken) (c .if2 .taken))), omega arith)
+returns c =
+    let s = c .before .before .before in
+    let e = ap (λ (m : ℕ). length (entryText (s .args .names .now) m (s .args .e))) (c .before .if1 .taken) in
+    (omega (arith, e, c .first-length .ensures .0), c .first-length .ensures .1)
+
+sub-result : tie.Need-sub-result
+sub-result c = line-from (start c .pre .0) _ (start c .pre .1) (next c) (from c)
 
 returns-2 : tie.Need-returns-2
-returns-2 c = (sym (ap length (letter-bar _ _ _ (c .before .if1 .taken) (c .if2 .left))), omega arith)
-
-sub-name-at : tie.Need-sub-name-at
-sub-name-at c = omega (arith, c .wide .ensures, pos-of-ne-zero (c .before .if1 .left))
-
-name-at-requires : tie.Need-name-at-requires
-name-at-requires c κs = (c .before .before .before .pre .0, omega (arith, c .wide .ensures, pos-of-ne-zero (c .before .if1 .left), c .before .before .before .pre .1))
-
-returns-3 : tie.Need-returns-3
-returns-3 c = (ap length (name (c .before) ∙ sym (letter-name _ _ _ (c .before .before .before .if1 .left) (c .if3 .taken))), omega (arith, ap length (name (c .before)), name-short (c .before .before .before .before .before .pre .0) _ (c .before .before .before .if1 .left) (c .before .before .before .before .before .pre .1)))
-
-add-result : tie.Need-add-result
-add-result c = omega (arith, ap length (name (c .before)), name-short (c .before .before .before .before .before .pre .0) _ (c .before .before .before .if1 .left) (c .before .before .before .before .before .pre .1))
-
-returns-4 : tie.Need-returns-4
-returns-4 c = let n = ap length (name (c .before)) in
-    (omega (arith, n, ap length (letter-mark (c .before .before .before .before .before .args .names .now) _ _ (c .before .before .before .if1 .left) (c .if3 .left))), omega (arith, n, name-short (c .before .before .before .before .before .pre .0) _ (c .before .before .before .if1 .left) (c .before .before .before .before .before .pre .1)))
+returns-2 c =
+    let q = c .before in
+    line-length (start q .pre .0) _ (start q .pre .1) (next q) (from q) _ (c .before .before .before .before .before .before .before .if1 .left)
+    (c .closing-length .ensures)
 
 pub entry-length-spec : {M : Type 1} → statement M
 entry-length-spec =
     tie.close
     (tie.spec
-    returns
-    returns-2
     (λ c κs. search needs)
-    sub-name-at
-    name-at-requires
-    returns-3
-    add-result
-    returns-4)
+    returns
+    (λ c κs. search needs)
+    (λ c. search needs) (λ c. search needs)
+    (λ c κs. search needs) (λ c κs. search needs)
+    (λ c. search needs) (λ c. search needs)
+    (λ c κs. search needs)
+    sub-result
+    (λ c κs. search needs)
+    (λ c. omega (arith, returns-2 c .1))
+    returns-2)

@@ -1,0 +1,2 @@
+-- What the operations on eight bytes promise.
+pub mod Words
