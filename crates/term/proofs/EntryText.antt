@@ -8,6 +8,7 @@ use native.Mathlib.Nat.{pos-of-ne-zero}
 use lib.ListN.{length, getD, drop, set, length-append, drop-of-length-le}
 use lib.Dec.{eqb}
 use borrow.Author.Tests.{eqb-true, eqb-false, eq-eqb, ne-eqb}
+use Rattle.model.specs.Choice.{if_then_else_}
 use Rattle.model.specs.Names.{nameOf, lineAt}
 use Rattle.model.proofs.Lists.{drop-next}
 use Rattle.names.specs.NamesIndex.{Lined}
@@ -44,6 +45,20 @@ pub name-short : {names starts : List ℕ} {n : ℕ} → Lined names starts n �
 unfolding nameOf
 name-short {names} {starts} {n} x e ne l = lines.name-short (lineAt names (e - 1) .bytes) (x .stands (e - 1) (omega (arith, pos-of-ne-zero ne)) .named)
 
+-- the separator after an entry, and that it is one
+mark-bar : (e : ℕ) → e ≡ 0 → markAfter e ≡ 44
+mark-bar e p = rw (eq-eqb e 0 p)
+
+mark-symbol : (e : ℕ) → (e ≡ 0 → ⊥) → markAfter e ≡ 40
+mark-symbol e p = rw (ne-eqb e 0 p)
+
+pub mark-some : (e : ℕ) → markAfter e ≡ 0 → ⊥
+mark-some e = go (eqb e 0)
+  where
+    go : (t : Bool) → _≡_ {A = ℕ} (if t then 44 else 40) 0 → ⊥
+    go true h = omega arith
+    go false h = omega arith
+
 -- what is added for a bar after a bar
 module _ (mark e : ℕ) where
   pub closing-one : e ≡ 0 → mark ≡ 44 → closing mark e ≡ 1
@@ -57,6 +72,12 @@ module _ (mark e : ℕ) where
   pub closing-name : (e ≡ 0 → ⊥) → closing mark e ≡ 0
   unfolding closing
   closing-name p = rw (ne-eqb e 0 p)
+
+pub closing-after : (before e : ℕ) → e ≡ 0 → before ≡ 0 → closing (markAfter before) e ≡ 1
+closing-after before e p q = closing-one (markAfter before) e p (mark-bar before q)
+
+pub closing-leaf : (before e : ℕ) → e ≡ 0 → (before ≡ 0 → ⊥) → closing (markAfter before) e ≡ 0
+closing-leaf before e p q = closing-none (markAfter before) e p (λ h. let m = mark-symbol before q in omega arith)
 
 -- after a separator an entry gives as many bytes as its line has, from its start to the next, and a bar none, or one where it closes
 module _ {names starts : List ℕ} {n : ℕ} (x : Lined names starts n) (e : ℕ) (few : e ≤ n) {next from : ℕ}
@@ -115,9 +136,6 @@ pub record Summed (names tree : List ℕ) (sum mark i : ℕ) : Type 0 where
   pub sums : sum + length (entriesText names mark (drop i tree)) ≡ length (entriesText names 0 tree)
   pub small : sum ≤ 25 * i
 
-pub sum-first : (names tree : List ℕ) → Summed names tree 0 0 0
-sum-first names tree = record { within = omega arith; sums = omega arith; small = omega arith }
-
 pub sum-next : {names tree : List ℕ} {sum mark i : ℕ} → Summed names tree sum mark i → i < length tree → (k m : ℕ)
     → k ≡ length (entryText names mark (getD tree i 0)) → k ≤ 25 → m ≡ markAfter (getD tree i 0) → Summed names tree (sum + k) m (i + 1)
 sum-next {names} {tree} {sum} {mark} {i} x l k m e s h =
@@ -127,6 +145,16 @@ sum-next {names} {tree} {sum} {mark} {i} x l k m e s h =
 
 pub sum-last : {names tree : List ℕ} {sum mark i : ℕ} → Summed names tree sum mark i → length tree ≤ i → sum ≡ length (entriesText names 0 tree)
 sum-last {names} {tree} {sum} {mark} {i} x ge = let a = ap length (letters-end names tree mark i ge) in omega (arith, x .sums)
+
+sum-none : (names tree : List ℕ) → Summed names tree 0 0 0
+sum-none names tree = record { within = omega arith; sums = omega arith; small = omega arith }
+
+pub sum-first : (names tree : List ℕ) → 0 < length tree → (k : ℕ) → k ≡ length (entryText names 0 (getD tree 0 0)) → k ≤ 25
+    → Summed names tree k (markAfter (getD tree 0 0)) 1
+sum-first names tree l k e s = let z : 0 + k ≡ k = omega arith in rw z at (sum-next (sum-none names tree) l k _ e s refl)
+
+pub sum-empty : (names tree : List ℕ) → length tree ≡ 0 → 0 ≡ length (entriesText names 0 tree)
+sum-empty names tree e = sum-last (sum-none names tree) (omega arith)
 
 -- the bytes of the entries before i are written
 pub record Lettered (names tree old new : List ℕ) (at mark i : ℕ) : Type 0 where

@@ -278,18 +278,18 @@ fn line_before(e: u16) -> usize
 }
 
 // 1 for a bar after a bar: it gives `)`.
-fn closing_length(mark: u8, e: u16) -> usize
-    ensures { λ r. ⌜ r ≡ closing mark e ⌝ }
+fn closing_length(before: u16, e: u16) -> usize
+    ensures { λ r. ⌜ r ≡ closing (markAfter before) e ⌝ }
 {
     if e == 0 {
-        if mark == b',' {
+        if before == 0 {
             return 1;
         }
     }
     0
 }
 
-// How many bytes the entry at the front gives.
+// How many bytes the first entry gives.
 fn first_length(names: &[u8], starts: &[u16; 256], n: usize, e: u16) -> usize
     requires { ⌜ Lined (now names) (now starts) n ⌝ }
     requires { ⌜ e ≤ n ⌝ }
@@ -301,17 +301,13 @@ fn first_length(names: &[u8], starts: &[u16; 256], n: usize, e: u16) -> usize
     name_at(names, starts, n, wide(e) - 1).len()
 }
 
-// How many bytes an entry gives; `mark` is the separator before a name that stands here, 0 at the front of the text. A line has one byte more than
-// its name, where the text has the separator.
-fn entry_length(names: &[u8], starts: &[u16; 256], n: usize, mark: u8, e: u16) -> usize
+// How many bytes an entry gives after another one. A line has one byte more than its name, where the text has the separator.
+fn entry_length(names: &[u8], starts: &[u16; 256], n: usize, before: u16, e: u16) -> usize
     requires { ⌜ Lined (now names) (now starts) n ⌝ }
     requires { ⌜ e ≤ n ⌝ }
-    ensures { λ r. ⌜ (r ≡ length (entryText (now (names .entry)) mark e)) × (r ≤ 25) ⌝ }
+    ensures { λ r. ⌜ (r ≡ length (entryText (now (names .entry)) (markAfter before) e)) × (r ≤ 25) ⌝ }
 {
-    if mark == 0 {
-        return first_length(names, starts, n, e);
-    }
-    wide(starts[wide(e)]) - wide(starts[line_before(e)]) + closing_length(mark, e)
+    wide(starts[wide(e)]) - wide(starts[line_before(e)]) + closing_length(before, e)
 }
 
 // How many bytes the tree's term has.
@@ -320,13 +316,13 @@ fn text_length(names: &[u8], starts: &[u16; 256], n: usize, tree: &[u16]) -> usi
     requires { ⌜ EntriesNamed n (now tree) ⌝ }
     ensures { λ r. ⌜ r ≡ length (entriesText (now (names .entry)) 0 (now (tree .entry))) ⌝ }
 {
-    let mut sum: usize = 0;
-    let mut mark: u8 = 0;
-    let mut i: usize = 0;
+    if tree.len() == 0 {
+        return 0;
+    }
+    let mut sum = first_length(names, starts, n, tree[0]);
+    let mut i: usize = 1;
     while i < tree.len() {
-        let e = tree[i];
-        sum += entry_length(names, starts, n, mark, e);
-        mark = mark_after(e);
+        sum += entry_length(names, starts, n, tree[i - 1], tree[i]);
         i += 1;
     }
     sum
