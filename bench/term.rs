@@ -304,23 +304,57 @@ fn alike(draw: &mut Draw) -> Vec<Vec<u8>> {
     names_list(draw, 255, &mut |draw| [&first[..], &name(draw, 4)[1..]].concat())
 }
 
-/// The bucket of a name: the hash of crates/names/src/lib.rt.
-fn bucket(name: &[u8]) -> u64 {
-    let h = name.iter().fold(0, |h, &b| (h * 2654435769 + u64::from(b | 32)) % 4294967296);
-    h * 2654435769 % 4294967296 / 8388608
+/// One word more in a hash, and the bucket of a name by a seed: the hash of crates/names/src/lib.rt.
+fn mix(h: u64, w: u64) -> u64 {
+    let p = ((h ^ w) % 4294967296) * 2146121005 ^ w / 4294967296 * 1540483477;
+    p ^ p / 4294967296
 }
 
-/// 255 names of 24 bytes that differ in the last four and all fall into one bucket. (Of those that differ in three there
-/// are about 107 to a bucket.)
+fn bucket(name: &[u8], seed: u64) -> u64 {
+    let word = |bytes: &[u8]| bytes.iter().rev().fold(0, |w, &b| w * 256 + u64::from(b | 32));
+    let words = name.chunks_exact(8);
+    let last = word(words.remainder());
+    let h = mix(words.fold(seed, |h, bytes| mix(h, word(bytes))), last);
+    h % 4294967296 * 2654435769 % 4294967296 / 8388608
+}
+
+/// The seed of a names list.
+fn seed(names: &[u8]) -> u64 {
+    let word = |at: usize| u64::from_le_bytes(names[at..at + 8].try_into().unwrap());
+    (0..6368).step_by(16).take_while(|i| i + 16 <= names.len()).fold(0, |seed, i| mix(seed ^ mix(i as u64, word(i + 8)), word(i)))
+}
+
+/// How many names of the fullest bucket a list has, by its own seed.
+fn fullest(names: &[u8]) -> usize {
+    let mut buckets = [0; 512];
+    for name in names.split(|&b| b == 10).filter(|name| !name.is_empty()) {
+        buckets[bucket(name, seed(names)) as usize] += 1;
+    }
+    buckets.into_iter().max().unwrap()
+}
+
+/// 255 names of 24 bytes that differ in the last four and all fall into one bucket, by the seed 0. (Of those that differ
+/// in three there are about 107 to a bucket.)
 fn one_bucket(draw: &mut Draw) -> Vec<Vec<u8>> {
     let first = name(draw, 20);
     let b = draw.below(512) as u64;
     names_list(draw, 255, &mut |draw| loop {
         let name = [&first[..], &name(draw, 5)[1..]].concat();
-        if bucket(&name) == b {
+        if bucket(&name, 0) == b {
             return name;
         }
     })
+}
+
+/// A report of 20 to 30 nodes, by so many names of 3 to 12 bytes.
+fn report(draw: &mut Draw, count: usize) -> Pair {
+    let names = names_list(draw, count, &mut |draw| {
+        let length = draw.between(3, 12).into();
+        name(draw, length)
+    });
+    let nodes = 20 + draw.below(11);
+    let tree = random_tree(draw, nodes, count);
+    pair(names, tree)
 }
 
 fn pair(names: Vec<Vec<u8>>, tree: Vec<u16>) -> Pair {
@@ -510,30 +544,35 @@ fn stacks(pair: &Pair) -> (usize, usize) {
 fn main() {
     let mut draw = Draw(1);
     let mut pairs = |n: usize, make: fn(&mut Draw) -> Pair| -> Vec<Pair> { (0..n).map(|_| make(&mut draw)).collect() };
+    // The goals of reading and of writing, in plain Rust's times.
     let cases = [
-        ("255 names of 1 to 24 bytes", Some(5.0), pairs(8, |draw| large(draw, mixed))),
+        ("255 names of 1 to 24 bytes", Some(0.8), Some(1.0), pairs(8, |draw| large(draw, mixed))),
         (
             "the same, the text in either case",
-            None,
+            Some(0.8),
+            Some(1.0),
             pairs(8, |draw| {
                 let pair = large(draw, mixed);
                 retyped(draw, pair)
             }),
         ),
-        ("255 names of 24 bytes, 21 shared", None, pairs(8, |draw| large(draw, alike))),
+        ("255 names of 24 bytes, 21 shared", Some(0.8), Some(1.0), pairs(8, |draw| large(draw, alike))),
         (
             "255 names, nested 2,048 deep",
-            None,
+            Some(0.8),
+            Some(1.0),
             pairs(8, |draw| {
                 let names = mixed(draw);
                 pair(names, chain(draw, 2048, 255))
             }),
         ),
-        ("2 names, a clerk's line", None, vec![clerk()]),
-        ("255 names of 24 bytes, one bucket", None, pairs(2, |draw| large(draw, one_bucket))),
+        ("20 to 30 nodes, 20 names", None, Some(1.0), pairs(32, |draw| report(draw, 20))),
+        ("20 to 30 nodes, 255 names", None, Some(1.0), pairs(32, |draw| report(draw, 255))),
+        ("2 names, a clerk's line", None, Some(1.0), vec![clerk()]),
+        ("255 names of 24 bytes, one bucket", Some(3.0), Some(3.0), pairs(2, |draw| large(draw, one_bucket))),
     ];
 
-    for (name, _, pairs) in &cases {
+    for (name, _, _, pairs) in &cases {
         for pair in pairs {
             assert_eq!(compare_read(pair, MOST_ENTRIES), Ok(pair.tree.len() as u64), "{name}");
             assert_eq!(compare_write(pair, MOST_BYTES), Ok(pair.text.len() as u64), "{name}");
@@ -544,22 +583,25 @@ fn main() {
     }
     println!(
         "{} timed inputs: the answers and the lists are equal, and none is a refusal",
-        cases.iter().map(|case| case.2.len()).sum::<usize>()
+        cases.iter().map(|case| case.3.len()).sum::<usize>()
     );
+    for pair in &cases.last().unwrap().3 {
+        println!("made for one bucket by the seed 0; by the list's own at most {} names share one", fullest(&pair.names));
+    }
     compare_faulty(&mut draw, 50_000);
 
-    let (read, written): (Vec<_>, Vec<_>) = cases.iter().flat_map(|case| &case.2).map(stacks).unzip();
+    let (read, written): (Vec<_>, Vec<_>) = cases.iter().flat_map(|case| &case.3).map(stacks).unzip();
     print_stack("treenum_read_term", read.into_iter().max().unwrap());
     print_stack("treenum_write_term", written.into_iter().max().unwrap());
 
     head("reading", "read");
-    for (name, goal, pairs) in &cases {
+    for (name, goal, _, pairs) in &cases {
         let mut runs = [library_read, plain_read, plain_read_fx].map(reading);
         time(name, *goal, pairs, runs.each_mut().map(|run| run as _));
     }
     head("writing", "written");
-    for (name, _, pairs) in &cases {
+    for (name, _, goal, pairs) in &cases {
         let mut runs = [library_write, plain_write, plain_write_fx].map(writing);
-        time(name, None, pairs, runs.each_mut().map(|run| run as _));
+        time(name, *goal, pairs, runs.each_mut().map(|run| run as _));
     }
 }

@@ -165,7 +165,42 @@ UNNAMED = [([3, 0], 0), ([255, 0], 0), ([1, 3, 0, 0], 1), ([3, 4, 0, 0], 0), ([1
            ([1, 1, 0, 1, 0, 9, 0, 3, 0, 0], 5), ([1] * 2047 + [3] + [0] * 2048, 2047), ([1] + [2, 0] * 2046 + [3, 0, 0], 4093)]
 
 
+def place_edges():
+    """A name of some lengths with another byte in one place: in the text, alone and within, and as a second line."""
+    for length in (1, 7, 8, 9, 15, 16, 17, 23, 24):
+        name = (b'Kp0_-Za' * 4)[:length]
+        for at in sorted({0, 1, 6, 7, 8, 15, 16, 22, 23} & set(range(length))):
+            for byte in sorted({name[at] ^ 32, name[at] ^ 128, *b'\0\x19-@Qq[_`{\x7f\x80\xff'}):
+                other = name[:at] + bytes([byte]) + name[at + 1:]
+                equal = byte == name[at] or byte ^ 32 == name[at] and byte in LETTERS
+                is_name = byte in LETTERS or at > 0 and byte in OTHERS
+                names, within = name + b'\nb\n', b'b(' + other + b',b,b,b,b,b)'
+                if equal:
+                    yield (READ, names, other, room(3)), 'result 2', [1, 0, 302]
+                    yield (READ, names, within, room(14)), 'result 14', over_leaves(2, [1, 2, 2, 2, 2, 2])
+                else:
+                    refused, place = ('20', 0) if is_name else ('19', at)
+                    yield (READ, names, other, room(3)), f'refused {refused} {place}', None
+                    yield (READ, names, within, room(14)), f'refused {refused} {place + 2}', None
+                if equal or not is_name:
+                    yield (READ, name + b'\n' + other + b'\n', name, room(3)), 'refused 17 1', None
+                else:
+                    yield (READ, name + b'\n' + other + b'\n', other, room(3)), 'result 2', [2, 0, 302]
+    # lists as long as they can be, one line longer, and with a byte that no name has
+    lines = [b'%03d' % k + b'-' * 20 for k in range(256)]
+    full = [b'n' + line for line in lines]
+    yield (READ, b'\n'.join(full[:255]) + b'\n', full[254].upper(), room(2)), 'result 2', [255, 0]
+    yield (READ, b'\n'.join(full) + b'\n', full[254], room(2)), 'refused 17 255', None
+    for line in (0, 127, 254, 255):
+        for count in (255, 256):
+            if line < count:
+                bad = full[:line] + [full[line][:-1] + b'.'] + full[line + 1:count]
+                yield (READ, b'\n'.join(bad) + b'\n', full[1], room(2)), f'refused 17 {line}', None
+                yield (READ, b'\n'.join(bad), full[1], room(2)), f'refused 17 {line}', None
+
+
 def read_edges():
+    yield from place_edges()
     for names, line in FAULTY_NAMES:
         yield (READ, names, b'a', room(4)), f'refused 17 {line}', None
     for names in NAMES:

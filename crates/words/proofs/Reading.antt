@@ -1,10 +1,10 @@
 -- Bytes of a list read as one number, and taken from it again. Assumes nothing.
-use Prim.Native.Nat.{ℕ, zero, suc, _+_, _*_, _/_, _%_, _^_, _<_, _≤_}
-use mathlib.Core.Path.{_≡_, refl, sym, ap, ap₂, _∙_}
+use Prim.Native.Nat.{ℕ, zero, suc, _+_, _*_, _%_, _^_, _<_, _≤_}
+use mathlib.Core.Path.{_≡_, sym, ap, ap₂, _∙_}
 use mathlib.Core.List.{List, [], _∷_, _++_}
 use native.Mathlib.Nat.{pow-suc}
 use native.Mathlib.Omega.{arith}
-use lib.Arith.{digits-lt, digits-div, digits-mod}
+use lib.Arith.{digits-lt, digits-mod}
 use lib.Pow.{pow-add}
 use lib.ListN.{length, take, drop, getD, length-drop, length-take, take-append-drop}
 use lib.Seq.{take-add, take-all, drop-drop, drop-cons, length-take-le, getD-take, getD-drop}

@@ -1,9 +1,9 @@
 -- How many bytes from `-` to `z` come first, by the zeros below the lowest mark. Assumes nothing.
 use Prim.Native.Nat.{ℕ, zero, suc, _+_, _*_, _/_, _%_}
-use mathlib.Core.Path.{_≡_, refl, sym, ap, _∙_}
+use mathlib.Core.Path.{_≡_, refl, ap, _∙_}
 use mathlib.Core.Bool.{Bool, true, false}
 use native.Mathlib.Omega.{arith}
-use lib.Count.{trailingZeros, under}
+use lib.Count.{trailingZeros}
 use Rattle.model.specs.Choice.{if_then_else_}
 use Rattle.words.specs.Words.{isInner, lanes, innerAhead}
 use Rattle.words.proofs.Formulas.{outer}

@@ -1,11 +1,10 @@
 use Prim.Native.Nat.{ℕ, _≤_, _<_, _-_}
 use mathlib.Core.Path.{_≡_, sym, _∙_}
-use mathlib.Core.Bool.{Bool, true, false}
+use mathlib.Core.Bool.{true}
 use native.Mathlib.Omega.{arith}
-use lib.Dec.{ltb}
 use lib.ListN.{length, getD}
 use borrow.Author.Needs.{needs}
-use borrow.Author.Tests.{not-false, ltb-true, ltb-false}
+use borrow.Author.Tests.{not-false}
 use Rattle.words.specs.Words.{isListByte}
 use Rattle.names.proofs.Words.{not-so, one-listed}
 use Rattle.names.proofs.list_bytes_rest.Statement.{statement}

@@ -1,5 +1,4 @@
 use Prim.Native.Nat.{_-_}
-use native.Mathlib.Omega.{arith}
 use borrow.Author.Needs.{needs}
 use Rattle.names.proofs.list_seed.Statement.{statement}
 use Rattle.names.proofs.list_seed.Tie as tie

@@ -1,5 +1,4 @@
 use mathlib.Core.Path.{sym, _∙_}
-use native.Mathlib.Omega.{arith}
 use borrow.Author.Needs.{needs}
 use borrow.Author.Tests.{not-true, not-false}
 use Rattle.names.proofs.Lines.{end-open, end-bad, part-named, end-long, end-unnamed, end-name, end-no-letter}

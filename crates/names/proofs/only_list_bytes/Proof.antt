@@ -1,13 +1,10 @@
 use Prim.Native.Nat.{ℕ, _≤_, _<_, _-_}
 use mathlib.Core.Path.{_≡_, sym, _∙_}
-use mathlib.Core.Bool.{Bool, true, false}
+use mathlib.Core.Bool.{true}
 use native.Mathlib.Omega.{arith}
-use lib.Dec.{ltb}
 use lib.ListN.{length, getD}
 use borrow.Author.Needs.{needs}
-use borrow.Author.Tests.{ltb-true, ltb-false}
 use Rattle.words.specs.Words.{isListByte}
-use Rattle.names.specs.NamesIndex.{OnlyListBytes}
 use Rattle.names.proofs.Words.{not-so, no-bits, eight-listed, two-parts}
 use Rattle.names.proofs.only_list_bytes.Statement.{statement}
 use Rattle.names.proofs.only_list_bytes.Tie as tie

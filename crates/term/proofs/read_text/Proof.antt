@@ -1,6 +1,6 @@
 use Prim.Native.Nat.{_-_, _<_}
 use native.Mathlib.Omega.{arith}
-use mathlib.Core.Path.{_≡_, sym, ap, _∙_}
+use mathlib.Core.Path.{sym, ap, _∙_}
 use lib.ListN.{length, drop}
 use borrow.Author.Needs.{needs}
 use Rattle.names.specs.NamesIndex.{allInner, hashOf}
