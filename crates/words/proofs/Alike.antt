@@ -3,15 +3,16 @@ use Prim.Native.Nat.{ℕ, zero, suc, _+_, _*_, _/_, _%_, _^_, _<_}
 use mathlib.Core.Path.{_≡_, refl, sym, ap, _∙_}
 use mathlib.Core.Bool.{Bool, true, false, _&&_}
 use mathlib.Core.List.{List, [], _∷_}
+use mathlib.Core.Logic.{_↔_}
 use native.Mathlib.Nat.{mod-lt, div-one, div-div-eq-div-mul, pow-succ'}
 use native.Mathlib.Omega.{arith}
 use lib.Arith.{digits-div, digits-mod}
-use lib.Dec.{eqb}
+use lib.Dec.{eqb, ltb}
 use lib.ListN.{length}
-use borrow.Author.Tests.{eqb-true, eq-eqb}
+use borrow.Author.Tests.{eqb-true, eq-eqb, ltb-true, ltb-false}
 use Rattle.model.specs.Table.{sameBy}
 use Rattle.model.specs.Names.{lower, alike, sameName}
-use Rattle.words.specs.Words.{byteAt, placesAlike, wordsAlike, packed, lanes}
+use Rattle.words.specs.Words.{byteAt, placesAlike, wordsAlike, EachPlaceAlike, packed, lanes}
 use Rattle.words.proofs.Formulas.{lower-small}
 use Rattle.words.proofs.Reading.{Bytes, others}
 
@@ -73,6 +74,29 @@ up-places (suc m) x y = first m x y ∙ ap (λ (t : Bool). alike (x % 256) (y % 
 pub words-is : (x y : ℕ) → eqb (lanes lower 8 x) (lanes lower 8 y) ≡ wordsAlike x y
 unfolding wordsAlike
 words-is x y = up-lanes 8 x y ∙ sym (up-places 8 x y)
+
+-- each place, and all
+places-each : (m x y : ℕ) → placesAlike m x y ≡ true → (k : ℕ) → k < m → alike (byteAt x k) (byteAt y k) ≡ true
+unfolding placesAlike
+places-each zero x y e k l = absurd (omega arith)
+places-each (suc m) x y e k l =
+    let p = parts (placesAlike m x y) (alike (byteAt x m) (byteAt y m)) e in
+    go (ltb k m) refl (places-each m x y (p .0)) (p .1)
+  where
+    go : (t : Bool) → ltb k m ≡ t → ((j : ℕ) → j < m → alike (byteAt x j) (byteAt y j) ≡ true) → alike (byteAt x m) (byteAt y m) ≡ true
+        → alike (byteAt x k) (byteAt y k) ≡ true
+    go true f h g = h k (ltb-true k m f)
+    go false f h g = let s : k ≡ m = omega (arith, ltb-false k m f) in rw s g
+
+each-places : (m x y : ℕ) → ((k : ℕ) → k < m → alike (byteAt x k) (byteAt y k) ≡ true) → placesAlike m x y ≡ true
+unfolding placesAlike
+each-places zero x y h = refl
+each-places (suc m) x y h = pair (placesAlike m x y) (alike (byteAt x m) (byteAt y m)) (each-places m x y (λ k l. h k (omega arith))) (h m (omega arith))
+
+-- exactly if they are alike in each of the eight places
+pub words-exactly : (x y : ℕ) → (wordsAlike x y ≡ true) ↔ EachPlaceAlike x y
+unfolding wordsAlike
+words-exactly x y = (λ e. record { at = places-each 8 x y e }, λ h. each-places 8 x y (h .at))
 
 -- the bytes that two numbers are read from
 up-list : (m : ℕ) (xs ys : List ℕ) → Bytes xs → Bytes ys → length xs ≡ m → length ys ≡ m → up m (packed xs) (packed ys) ≡ sameName xs ys

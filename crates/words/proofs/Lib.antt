@@ -4,3 +4,4 @@ pub mod Alike
 pub mod Reading
 pub mod Zeros
 pub mod Placing
+pub mod Examples

@@ -22,6 +22,10 @@ placesAlike (suc k) x y = placesAlike k x y && alike (byteAt x k) (byteAt y k)
 unfoldable pub wordsAlike : (x y : ℕ) → Bool
 wordsAlike x y = placesAlike 8 x y
 
+-- the same, said of each place (the law `words-exactly`)
+pub record EachPlaceAlike (x y : ℕ) : Type 0 where
+  pub at : (place : ℕ) → place < 8 → alike (byteAt x place) (byteAt y place) ≡ true
+
 -- bytes as one number
 unfoldable pub packed : List ℕ → ℕ
 packed [] = 0
