@@ -57,6 +57,12 @@ static const struct test {
     {"a name listed in no spelling", BYTES("a\nb\n"), BYTES("A(B,C,c)"), LIST(0), 40, TREENUM_UNLISTED_NAME, 4},
     {"a digit for a letter", BYTES("aP\n"), BYTES("a0"), LIST(0), 40, TREENUM_UNLISTED_NAME, 0},
     {"a byte beside the letters", BYTES("a\nb\n"), BYTES("A(B,[)"), LIST(0), 40, TREENUM_NOT_A_TERM, 4},
+    {"byte 127 for an underscore", BYTES("a_\n"), BYTES("a\x7f"), LIST(0), 40, TREENUM_NOT_A_TERM, 1},
+    {"the same in the eighth place", BYTES("abcdefg_\n"), BYTES("abcdefg\x7f"), LIST(0), 40, TREENUM_NOT_A_TERM, 7},
+    {"the eighth byte", BYTES("abcdefgh\nabcdefgi\n"), BYTES("ABCDEFGI(abcdefgh)"), LIST(2, 1, 0, 0), 40, TREENUM_RESULT, 4},
+    {"the ninth byte", BYTES("abcdefghi\nabcdefghj\n"), BYTES("abcdefghj(ABCDEFGHI)"), LIST(2, 1, 0, 0), 40, TREENUM_RESULT, 4},
+    {"a fifth byte that differs", BYTES("abcdefgh\n"), BYTES("abcdEfgh(abcd0fgh)"), LIST(0), 40, TREENUM_UNLISTED_NAME, 9},
+    {"sixteen bytes and no more", BYTES("abcdefghijklmnop\n"), BYTES("abcdefghijklmnopq"), LIST(0), 40, TREENUM_UNLISTED_NAME, 0},
 }, writing[] = {
     {"a leaf", BYTES("a\nb\n"), BYTES("b"), LIST(2, 0), 40, TREENUM_RESULT, 1},
     {"the paper's number 10", BYTES("a\nb\n"), BYTES("b(b(a,b),a(b,b),b)"),

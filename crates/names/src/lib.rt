@@ -170,8 +170,8 @@ fn bucket(h: u64) -> usize
     (h % 4294967296 * 2654435769 % 4294967296 / 8388608) as usize
 }
 
-// A seed for the hash, from the list's bytes, sixteen at a time, up to the 6,368th. No answer depends on it: names made for one bucket by some seed
-// have another one as a list.
+// A seed for the hash, from the list's bytes, sixteen at a time, up to the 6,368th. No answer depends on it; names that share a bucket by one seed
+// do not by another.
 pub fn list_seed(names: &[u8]) -> u64 {
     let mut seed: u64 = 0;
     let mut i: usize = 0;
