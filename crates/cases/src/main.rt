@@ -229,12 +229,12 @@ fn answer_tree(
     let l = third.count;
     let mut x = third.entries;
     if operation == 2 {
-        say(2, rank::number(states, rows, accepting, front(&x, l)));
+        say(2, operations::number(states, rows, accepting, front(&x, l)));
         return true;
     }
     say(
         3,
-        unrank::write(states, rows, accepting, value_at(numbers, at), &mut x[0..l]),
+        operations::write(states, rows, accepting, value_at(numbers, at), &mut x[0..l]),
     );
     say_list(&x, l);
     true
@@ -253,7 +253,7 @@ fn answer_table(operation: u64, numbers: &[u64; WHOLE], n: usize) -> bool {
     if second.end != n {
         return false;
     }
-    say(1, table::check(states, rows, accepting));
+    say(1, operations::check(states, rows, accepting));
     true
 }
 

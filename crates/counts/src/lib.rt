@@ -1,13 +1,13 @@
 // Counts of states and their longest trees, state by state.
 use model::Kind;
 ghost use mathlib.Core.Path.{_≡_};
-ghost use Prim.Native.Nat.{ℕ, _+_, _*_, _<_, _≤_, min};
+ghost use Prim.Native.Nat.{_+_, _*_, _<_, _≤_, min};
 ghost use mathlib.Core.List.{map};
 ghost use lib.ListN.{length};
 ghost use Rattle.model.specs.Count.{sum, product};
 ghost use Rattle.model.specs.Check.{countLimit};
-ghost use Rattle.rows.specs.Laid.{Laid};
-ghost use Rattle.counts.specs.Chain.{target, Chained, Unchained};
+ghost use Rattle.rows.specs.Words.{rowsIn};
+ghost use Rattle.counts.specs.Chain.{Chainable, ChainedRows};
 ghost use Rattle.counts.specs.States.{ceiling, lengthCeiling, held, ArgsWithin, longer, Summed, Countable, CountReady, CountedStates};
 
 // The largest count and the largest total that pass.
@@ -24,9 +24,9 @@ const LENGTH_LIMIT: u64 = 4096;
 const LENGTH_CEILING: u64 = LENGTH_LIMIT + 1;
 
 // What a state counts, and how many entries its longest tree has, each capped at one above its limit.
-pub struct Counted {
-    pub count: u64,
-    pub longest: u64,
+struct Counted {
+    count: u64,
+    longest: u64,
 }
 
 // The first faulty state, or nothing.
@@ -54,7 +54,7 @@ fn plus(a: u64, b: u64) -> u64
 }
 
 // What a row with these arguments counts, capped at one above the limit.
-fn row_count(args: &[u16], counts: &[u64; 256]) -> u64
+fn row_count(args: &[u16], counts: &[u64]) -> u64
     requires { ⌜ ArgsWithin countLimit (now counts) (now args) ⌝ }
     ensures { λ r. ⌜ r ≡ min (product (map (held (now (counts .entry))) (now (args .entry)))) ceiling ⌝ }
 {
@@ -68,7 +68,7 @@ fn row_count(args: &[u16], counts: &[u64; 256]) -> u64
 }
 
 // The sum of the values of the states in a list, capped at one above the limit.
-pub fn sum_of(list: &[u16], values: &[u64; 256]) -> u64
+pub fn sum_of(list: &[u16], values: &[u64]) -> u64
     requires { ⌜ ArgsWithin countLimit (now values) (now list) ⌝ }
     ensures { λ r. ⌜ r ≡ min (sum (map (held (now (values .entry))) (now (list .entry)))) ceiling ⌝ }
 {
@@ -82,14 +82,14 @@ pub fn sum_of(list: &[u16], values: &[u64; 256]) -> u64
 }
 
 // How many entries the longest tree of a row with these arguments has, capped at one above the limit of lengths.
-fn row_length(args: &[u16], longest: &[u64; 256]) -> u64
+fn row_length(args: &[u16], longest: &[u16]) -> u64
     requires { ⌜ (length (now args) ≤ 16) × ArgsWithin 4096 (now longest) (now args) ⌝ }
     ensures { λ r. ⌜ r ≡ min (2 + sum (map (held (now (longest .entry))) (now (args .entry)))) lengthCeiling ⌝ }
 {
     let mut n: u64 = 2;
     let mut i: usize = 0;
     while i < args.len() {
-        n += longest[chains::wide(args[i])];
+        n += chains::wider(longest[chains::wide(args[i])]);
         i += 1;
     }
     if LENGTH_LIMIT < n {
@@ -100,7 +100,7 @@ fn row_length(args: &[u16], longest: &[u64; 256]) -> u64
 
 // The longer of the length found so far and the longest tree of a row that counts w, capped at one above the limit of lengths; a row that
 // counts 0 has no tree.
-fn longer_of(long: u64, w: u64, args: &[u16], longest: &[u64; 256]) -> u64
+fn longer_of(long: u64, w: u64, args: &[u16], longest: &[u16]) -> u64
     requires { ⌜ (long ≤ lengthCeiling) × (length (now args) ≤ 16) × ArgsWithin 4096 (now longest) (now args) ⌝ }
     ensures { λ r. ⌜ r ≡ min (longer long w (now (longest .entry)) (now (args .entry))) lengthCeiling ⌝ }
 {
@@ -114,41 +114,33 @@ fn longer_of(long: u64, w: u64, args: &[u16], longest: &[u64; 256]) -> u64
     long
 }
 
-// Chains the first n rows by their targets, in their order.
-pub fn chain_rows(
-    rows: &[u16],
-    offsets: &[u16; 1024],
-    n: usize,
-    first: &mut [u16; 256],
-    after: &mut [u16; 1024],
-)
-    requires { ⌜ Laid (now rows) (now offsets) n ⌝ }
-    requires { ⌜ ((r : ℕ) → r < n → target (now rows) r < 256) ⌝ }
-    requires { ⌜ Unchained (now first) (now after) ⌝ }
-    ensures { λ _. ⌜ Chained (now (rows .entry)) 0 n (now (first .exit)) (now (after .exit)) ⌝ }
+// Chains the rows by their targets, in their order, by links in their words.
+pub fn chain_rows(pool: &[u16], words: &mut [u64], first: &mut [u16])
+    requires { ⌜ Chainable (now pool) (now words) (now first) ⌝ }
+    ensures { λ _. ⌜ ChainedRows (now (pool .entry)) (now (words .entry)) (now (first .entry)) (now (words .exit)) (now (first .exit)) ⌝ }
 {
-    let mut m = n;
+    let mut m = words.len();
     while 0 < m {
         m -= 1;
-        let t = chains::wide(rows[chains::wide(offsets[m]) + 1]);
-        after[m] = first[t];
+        let w = words[m];
+        let t = chains::wide(rows::target_in(w));
+        words[m] = w + chains::wider(first[t]) * 4503599627370496;
         first[t] = (m + 1) as u16;
     }
 }
 
 // Counts state q by its rows, and stores for each row what the state's earlier rows count together.
 fn count_state(
-    rows: &[u16],
-    offsets: &[u16; 1024],
-    first: &[u16; 256],
-    after: &[u16; 1024],
-    counts: &[u64; 256],
-    longest: &[u64; 256],
-    sums: &mut [u64; 1024],
+    pool: &[u16],
+    words: &[u64],
+    first: &[u16],
+    counts: &[u64],
+    longest: &[u16],
+    sums: &mut [u64],
     q: usize,
 ) -> Counted
-    requires { ⌜ Countable (now rows) (now offsets) (now first) (now after) (now counts) (now longest) (now sums) q ⌝ }
-    ensures { λ r. ⌜ Summed (now (rows .entry)) (now (counts .entry)) (now (longest .entry)) q
+    requires { ⌜ Countable (now pool) (now words) (now first) (now counts) (now longest) (now sums) q ⌝ }
+    ensures { λ r. ⌜ Summed (rowsIn (now (pool .entry)) (now (words .entry))) (now (counts .entry)) (now (longest .entry)) q
         (now (sums .entry)) (now (sums .exit)) r ⌝ }
 {
     let mut count: u64 = 0;
@@ -156,12 +148,13 @@ fn count_state(
     let mut p = chains::wide(first[q]);
     while 0 < p {
         let r = p - 1;
-        let args = rows::args_at(rows, chains::wide(offsets[r]));
+        let word = words[r];
+        let args = rows::args_in(pool, word);
         sums[r] = count;
         let w = row_count(args, counts);
         count = plus(count, w);
         long = longer_of(long, w, args, longest);
-        p = chains::wide(after[r]);
+        p = rows::after_in(word);
     }
     Counted {
         count: count,
@@ -172,20 +165,20 @@ fn count_state(
 // Counts the states in turn from 0, up to the first whose count or longest tree is above its limit.
 pub fn count_states(
     states: usize,
-    rows: &[u16],
-    offsets: &[u16; 1024],
-    first: &[u16; 256],
-    after: &[u16; 1024],
-    counts: &mut [u64; 256],
-    longest: &mut [u64; 256],
-    sums: &mut [u64; 1024],
+    pool: &[u16],
+    words: &[u64],
+    first: &[u16],
+    counts: &mut [u64],
+    longest: &mut [u16],
+    sums: &mut [u64],
 ) -> StateFault
-    requires { ⌜ CountReady states (now rows) (now offsets) (now first) (now after) (now counts) (now longest) (now sums) ⌝ }
-    ensures { λ r. ⌜ CountedStates states (now (rows .entry)) (now (counts .exit)) (now (longest .exit)) (now (sums .exit)) r ⌝ }
+    requires { ⌜ CountReady states (now pool) (now words) (now first) (now counts) (now longest) (now sums) ⌝ }
+    ensures { λ r. ⌜ CountedStates states (rowsIn (now (pool .entry)) (now (words .entry))) (now (counts .entry)) (now (counts .exit))
+        (now (longest .exit)) (now (sums .entry)) (now (sums .exit)) r ⌝ }
 {
     let mut q: usize = 0;
     while q < states {
-        let s = count_state(rows, offsets, first, after, &*counts, &*longest, sums, q);
+        let s = count_state(pool, words, first, &*counts, &*longest, sums, q);
         let count = s.count;
         let long = s.longest;
         if LIMIT < count {
@@ -195,7 +188,7 @@ pub fn count_states(
             return StateFault::At(q, Kind::LongestTreeAboveLimit);
         }
         counts[q] = count;
-        longest[q] = long;
+        longest[q] = long as u16;
         q += 1;
     }
     StateFault::Nothing

@@ -171,7 +171,7 @@ fn answer_number(
     requires { ⌜ longestLine ≤ length (now out) ⌝ }
     ensures { λ r. ⌜ Begins (now (out .exit)) (answerNumber states (now (rows .entry)) (now (accepting .entry)) (now (names .entry)) number) r ⌝ }
 {
-    match unrank::write(states, rows, accepting, number, &mut *tree) {
+    match operations::write(states, rows, accepting, number, &mut *tree) {
         Answer::Result(count) => {
             let n = count as usize;
             put_term(names, &tree[..n], out)
@@ -185,7 +185,7 @@ fn answer_tree(states: u64, rows: &[u16], accepting: &[u16], tree: &[u16], out: 
     requires { ⌜ longestLine ≤ length (now out) ⌝ }
     ensures { λ r. ⌜ Begins (now (out .exit)) (printed (numberOutcome states (now (rows .entry)) (now (accepting .entry)) (now (tree .entry))) decimal) r ⌝ }
 {
-    match rank::number(states, rows, accepting, tree) {
+    match operations::number(states, rows, accepting, tree) {
         Answer::Result(number) => put_number(number, out),
         Answer::Refused(r) => put_refusal(r, out),
     }

@@ -10,7 +10,6 @@ use Rattle.model.specs.Choice.{if_then_else_}
 use Rattle.model.specs.Names.{isName, sameName, lineAt, howManyNames, namesThen}
 use Rattle.chains.specs.First.{firstWith}
 use Rattle.words.specs.Words.{isInner, isListByte, packed}
-use Rattle.chains.specs.Hash.{spread}
 use Rattle.chains.specs.Chains.{Chains}
 use Rattle.chains.specs.declared.Found.{Found}
 use Rattle.chains.specs.declared.Found.the-variants.{At, Nothing}
@@ -50,7 +49,7 @@ mixWords (suc k) h bytes = mixWords k (mixed h (packed (take 8 bytes))) (drop 8 
 
 -- one of 512 buckets (8388608 is 2 ^ 32 / 512)
 unfoldable pub bucketAt : ℕ → ℕ
-bucketAt h = spread 8388608 (h % 4294967296)
+bucketAt h = h % 4294967296 * 2654435769 % 4294967296 / 8388608
 
 -- the bucket of a name, by a hash that begins with a seed: equal names have the same (the law `same-bucket`)
 unfoldable pub hashOf : (seed : ℕ) → List ℕ → ℕ

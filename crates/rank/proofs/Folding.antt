@@ -1,11 +1,11 @@
 -- A node's value from those of its children. Assumes nothing.
 use Prim.Native.Nat.{ℕ, zero, suc, _+_, _*_, _<_, _≤_, pred}
-use mathlib.Core.Path.{_≡_, refl, ap}
+use mathlib.Core.Path.{_≡_, refl, sym, ap, _∙_}
 use mathlib.Core.List.{List, [], _∷_, map}
 use native.Mathlib.Omega.{arith}
 use native.Mathlib.Nat.{le-mul-of-pos-right}
 use lib.ListN.{length, getD, drop, drop-of-length-le}
-use Rattle.model.specs.Table.{rowNumbered, rowIs}
+use Rattle.model.specs.Table.{Row, rowIs}
 use Rattle.model.specs.Count.{product}
 use Rattle.model.specs.Value.{horner}
 use Rattle.model.specs.Check.{countLimit}
@@ -13,7 +13,8 @@ use Rattle.model.proofs.Lists.{drop-next}
 use Rattle.model.proofs.Values.{ValuesBelow, none-below, also-below, below-length, horner-from, horner-less}
 use Rattle.chains.specs.declared.Found.the-variants.{At, Nothing}
 use Rattle.chains.proofs.First.{first-is}
-use Rattle.rows.specs.Laid.{Laid}
+use Rattle.rows.specs.Words.{rowNo, rowsIn, targetIn}
+use Rattle.rows.proofs.Words.{rows-long, row-held}
 use Rattle.index.specs.Index.{rowFound}
 use Rattle.counts.specs.States.{held}
 use Rattle.rank.specs.declared.Node.the-variants.{Reaches, Stuck}
@@ -71,24 +72,23 @@ fold-ends {cs} {xs} {vs} {h} {i} f g = rw (drop-of-length-le xs {i = i} g) at (f
 
 -- ---- the row of a node
 
-module _ {rows offsets : List ℕ} {n : ℕ} (laid : Laid rows offsets n) (s : ℕ) (xs : List ℕ) (k : ℕ) (found : rowFound rows n s xs ≡ At k) where
-  pub found-inside : k < n
-  found-inside = first-is (λ k. rowIs (rowNumbered rows k) s xs) n k found .0
+module _ (pool words : List ℕ) (s : ℕ) (xs : List ℕ) (k : ℕ) (found : rowFound (rowsIn pool words) s xs ≡ At k) where
+  pub found-inside : k < length words
+  found-inside = rw (rows-long pool words) at (first-is (λ k. rowIs (rowNo (rowsIn pool words) k) s xs) (length (rowsIn pool words)) k found .0)
 
-  pub found-whole : (at : ℕ) → at ≡ getD offsets k 0 → at + 3 ≤ length rows
-  found-whole at e = omega (arith, laid .starts k found-inside, laid .whole k found-inside)
-
-  pub node-reaches : (cs sums vs : List ℕ) (at h : ℕ) → at ≡ getD offsets k 0 → h ≡ horner (held cs) 0 xs vs
-      → Reaches (getD rows (at + 1) 0) (h + getD sums k 0) ≡ nodeOf rows n cs sums s xs vs
+  pub node-reaches : (cs sums vs : List ℕ) (q h : ℕ) → q ≡ targetIn (getD words k 0) → h ≡ horner (held cs) 0 xs vs
+      → Reaches q (h + getD sums k 0) ≡ nodeOf (rowsIn pool words) cs sums s xs vs
   unfolding nodeOf
-  node-reaches cs sums vs at h e d = rw (found, e, laid .starts k found-inside, d)
+  node-reaches cs sums vs q h e d =
+      let t : q ≡ rowNo (rowsIn pool words) k .target = e ∙ sym (ap (λ (r : Row). r .target) (row-held pool words k found-inside)) in
+      rw found (λ j. Reaches (t j) (d j + getD sums k 0))
 
-pub node-stuck : (rows : List ℕ) (n : ℕ) (cs sums : List ℕ) (s : ℕ) (xs vs : List ℕ) → rowFound rows n s xs ≡ Nothing → Stuck ≡ nodeOf rows n cs sums s xs vs
+pub node-stuck : (rows : List Row) (cs sums : List ℕ) (s : ℕ) (xs vs : List ℕ) → rowFound rows s xs ≡ Nothing → Stuck ≡ nodeOf rows cs sums s xs vs
 unfolding nodeOf
-node-stuck rows n cs sums s xs vs e = rw e
+node-stuck rows cs sums s xs vs e = rw e
 
 -- what a closable node needs
-module _ {rows : List ℕ} {n : ℕ} {cs sums : List ℕ} {s : ℕ} {xs vs : List ℕ} (b : Closable rows n cs sums s xs vs) (k : ℕ) (found : rowFound rows n s xs ≡ At k) where
+module _ {rows : List Row} {cs sums : List ℕ} {s : ℕ} {xs vs : List ℕ} (b : Closable rows cs sums s xs vs) (k : ℕ) (found : rowFound rows s xs ≡ At k) where
   pub closable-folds : Foldable cs xs vs
   closable-folds = record { valued = b .valued; small = omega (arith, b .small k found) }
 

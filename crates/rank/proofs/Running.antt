@@ -6,14 +6,14 @@ use mathlib.Core.List.{List, [], _∷_, _++_, map}
 use native.Mathlib.Omega.{arith}
 use native.Mathlib.Numerals.{add-one}
 use native.Mathlib.Nat.{zero-sub, pos-of-ne-zero}
-use lib.ListN.{length, getD, set, take, drop, length-set, length-drop, drop-of-length-le}
+use lib.ListN.{length, getD, set, take, drop, replicate, length-replicate, length-set, length-drop, drop-of-length-le}
 use lib.Seq.{take-nil, take-all, getD-set-same, getD-set-other, take-suc-set, length-take-le, take-take, getD-take, getD-drop}
 use lib.Dec.{ltb, eqb}
 use borrow.Author.Count.{below-more}
 use borrow.Author.Tests.{eqb-false, ltb-false}
 use Rattle.model.specs.Answers.{Outcome, result, refused, refusedBy}
 use Rattle.model.specs.declared.Refusal.{Refusal}
-use Rattle.model.specs.Table.{rowNumbered, rowIs}
+use Rattle.model.specs.Table.{Row, rowIs}
 use Rattle.model.specs.Tree.{WellFormed}
 use Rattle.model.specs.Count.{product}
 use Rattle.model.specs.Value.{horner}
@@ -26,6 +26,8 @@ use Rattle.model.proofs.Entries.{well-formed, open-bound, tree-then-taken}
 use Rattle.chains.specs.declared.Found.{Found}
 use Rattle.chains.specs.declared.Found.the-variants.{At, Nothing}
 use Rattle.chains.proofs.First.{first-is}
+use Rattle.rows.specs.Words.{rowNo, rowsIn}
+use Rattle.rows.proofs.Words.{rows-long}
 use Rattle.index.specs.Index.{rowFound}
 use Rattle.counts.specs.Chain.{target}
 use Rattle.counts.specs.States.{held}
@@ -36,7 +38,7 @@ use Rattle.tree.proofs.Laws.{Read, refusing, opens-by, closes-by, opened, shut,
 use Rattle.rank.specs.declared.Node.{Node}
 use Rattle.rank.specs.declared.Node.the-variants.{Reaches, Stuck}
 use Rattle.rank.specs.Machine.{nodeBy, nodeOf, numbered, run, machine}
-use Rattle.rank.specs.RankReady.{ValuesFit, Closable, Summable, RankReady}
+use Rattle.rank.specs.RankReady.{ValuesFit, Closable, Summable, RankReady, StackRoom}
 use Rattle.rank.proofs.Folding.{valued-below}
 
 -- ---- an array as a stack
@@ -112,66 +114,74 @@ step-closes s t e p =
 -- ---- a closed node
 
 -- what a node found by its row is
-by-row : (f : Found) (rows cs sums xs vs : List ℕ) (q v : ℕ) → nodeBy f rows cs sums xs vs ≡ Reaches q v
+by-row : (f : Found) (rows : List Row) (cs sums xs vs : List ℕ) (q v : ℕ) → nodeBy f rows cs sums xs vs ≡ Reaches q v
     → (k : ℕ) × (f ≡ At k) × (q ≡ target rows k) × (v ≡ horner (held cs) 0 xs vs + getD sums k 0)
 by-row (At k) rows cs sums xs vs q v e = (k, refl, cc, cc)
 by-row Nothing rows cs sums xs vs q v e = let z : _≡_ {A = ℕ} 0 1 = cc in absurd (omega arith)
 
-module _ {rows accepting offsets heads next cs sums : List ℕ} {n : ℕ} (ready : RankReady rows accepting offsets heads next cs sums n) (s : ℕ) (xs : List ℕ) where
+module _ {by : ℕ} {pool words heads accepting cs sums : List ℕ} (ready : RankReady by pool words heads accepting cs sums) (s : ℕ) (xs : List ℕ) where
   -- the row that is found counts, with the rows before it, at most what its target counts
-  found-fits : (k : ℕ) → rowFound rows n s xs ≡ At k → (k < n) × (product (map (held cs) xs) + getD sums k 0 ≤ held cs (target rows k))
+  found-fits : (k : ℕ) → rowFound (rowsIn pool words) s xs ≡ At k → (k < length words) × (product (map (held cs) xs) + getD sums k 0 ≤ held cs (target (rowsIn pool words) k))
   found-fits k e =
-      let f = first-is (λ k. rowIs (rowNumbered rows k) s xs) n k e in
-      let a : rowNumbered rows k .args ≡ xs = rowIs-true (rowNumbered rows k) s xs (f .1) .1 in
-      (f .0, rw a at (ready .shares k (f .0)))
+      let f = first-is (λ k. rowIs (rowNo (rowsIn pool words) k) s xs) (length (rowsIn pool words)) k e in
+      let l : k < length words = rw (rows-long pool words) at (f .0) in
+      let a : rowNo (rowsIn pool words) k .args ≡ xs = rowIs-true (rowNo (rowsIn pool words) k) s xs (f .1) .1 in
+      (l, rw a at (ready .shares k l))
 
-  closes-within : (vs : List ℕ) → ValuesFit cs xs vs → Closable rows n cs sums s xs vs
+  closes-within : (vs : List ℕ) → ValuesFit cs xs vs → Closable (rowsIn pool words) cs sums s xs vs
   closes-within vs v = record { valued = v; small = λ k e. let f = found-fits k e in omega (arith, f .1, ready .small k (f .0)) }
 
   -- the state has a place, and the value is below its count
-  node-below : (vs : List ℕ) → ValuesFit cs xs vs → (q v : ℕ) → nodeOf rows n cs sums s xs vs ≡ Reaches q v → (q < 256) × (v < held cs q)
+  node-below : (vs : List ℕ) → ValuesFit cs xs vs → (q v : ℕ) → nodeOf (rowsIn pool words) cs sums s xs vs ≡ Reaches q v → (q < length cs) × (v < held cs q)
   unfolding nodeOf
   node-below vs b q v e =
-      let r = by-row (rowFound rows n s xs) rows cs sums xs vs q v e in
+      let r = by-row (rowFound (rowsIn pool words) s xs) (rowsIn pool words) cs sums xs vs q v e in
       let k = r .0 in
       let f = found-fits k (r .1) in
       let less = horner-less (valued-below b) in
-      let q-is : q ≡ target rows k = r .2 in
+      let q-is : q ≡ target (rowsIn pool words) k = r .2 in
       let v-is : v ≡ horner (held cs) 0 xs vs + getD sums k 0 = r .3 in
-      let small : v < held cs (target rows k) = omega (arith, f .1) in
+      let small : v < held cs (target (rowsIn pool words) k) = omega (arith, f .1) in
       (rw q-is (ready .targets k (f .0)), rw q-is small)
 
 -- ---- the entries in turn
 
 -- i entries are read: the open nodes and what waits stand in the arrays, and the machine goes on from there
-pub record Running (rows accepting cs sums tree : List ℕ) (n : ℕ) (opens begins waiting values : List ℕ) (w : ℕ) (s : Reading) (i : ℕ) : Type 0 where
+pub record Running (pool words accepting cs sums tree opens₀ begins₀ waiting₀ values₀ opens begins waiting values : List ℕ) (w : ℕ) (s : Reading) (i : ℕ) : Type 0 where
   pub reads : Read tree s i
-  pub opens-long : length opens ≡ 2048
-  pub begins-long : length begins ≡ 2048
-  pub waiting-long : length waiting ≡ 2048
-  pub values-long : length values ≡ 2048
+  pub space : StackRoom tree opens₀ begins₀ waiting₀ values₀
+  pub opens-long : length opens ≡ length opens₀
+  pub begins-long : length begins ≡ length begins₀
+  pub waiting-long : length waiting ≡ length waiting₀
+  pub values-long : length values ≡ length values₀
   -- a state that waits has used two entries, an open node one
   pub room : 2 * w + s .depth ≤ i
-  pub deep : s .depth ≤ 2048
+  pub deep : 2 * s .depth ≤ length tree
   pub some : 0 < i → 0 < s .depth + w
   pub under : (j : ℕ) → j < s .depth → getD begins j 0 ≤ w
   pub sorted : (j k : ℕ) → j ≤ k → k < s .depth → getD begins j 0 ≤ getD begins k 0
-  pub placed : (j : ℕ) → j < w → getD waiting j 0 < 256
+  pub placed : (j : ℕ) → j < w → getD waiting j 0 < length cs
   pub below : (j : ℕ) → j < w → getD values j 0 < held cs (getD waiting j 0)
-  pub same : run (nodeOf rows n cs sums) (numbered accepting cs) (stackOf (s .depth) opens) (stackOf (s .depth) begins) (take w waiting) (take w values) i (drop i tree)
-      ≡ machine rows n accepting cs sums tree
+  pub same : run (nodeOf (rowsIn pool words) cs sums) (numbered accepting cs) (stackOf (s .depth) opens) (stackOf (s .depth) begins) (take w waiting) (take w values) i (drop i tree)
+      ≡ machine (rowsIn pool words) accepting cs sums tree
 
-pub running-begins : (rows accepting cs sums tree : List ℕ) (n : ℕ) (opens begins waiting values : List ℕ) (s : Reading) → length tree ≤ 4096 → s ≡ fresh
-    → length opens ≡ 2048 → length begins ≡ 2048 → length waiting ≡ 2048 → length values ≡ 2048
-    → Running rows accepting cs sums tree n opens begins waiting values 0 s 0
-running-begins rows accepting cs sums tree n opens begins waiting values s few e lo lb lw lv =
+-- arrays of n zeros, where there are at most twice as many entries
+pub zeros-room : (tree : List ℕ) (n : ℕ) → length tree ≤ 4096 → length tree ≤ 2 * n → StackRoom tree (replicate n 0) (replicate n 0) (replicate n 0) (replicate n 0)
+zeros-room tree n short l =
+    let e : length {A = ℕ} (replicate n 0) ≡ n = length-replicate {A = ℕ} n 0 in
+    record { short = short; opens-room = rw e l; begins-room = rw e l; waiting-room = rw e l; values-room = rw e l }
+
+pub running-begins : (pool words accepting cs sums tree opens begins waiting values : List ℕ) (s : Reading) → StackRoom tree opens begins waiting values → s ≡ fresh
+    → Running pool words accepting cs sums tree opens begins waiting values opens begins waiting values 0 s 0
+running-begins pool words accepting cs sums tree opens begins waiting values s space e =
     let d : s .depth ≡ 0 = ap (λ (r : Reading). r .depth) e in
     record {
-      reads = read-begins tree s few e;
-      opens-long = lo;
-      begins-long = lb;
-      waiting-long = lw;
-      values-long = lv;
+      reads = read-begins tree s (space .short) e;
+      space = space;
+      opens-long = refl;
+      begins-long = refl;
+      waiting-long = refl;
+      values-long = refl;
       room = omega arith;
       deep = omega arith;
       some = λ l. absurd (omega arith);
@@ -182,53 +192,63 @@ running-begins rows accepting cs sums tree n opens begins waiting values s few e
       same = rw (d, no-stack opens, no-stack begins);
     }
 
-module _ {rows accepting cs sums tree : List ℕ} {n : ℕ} {opens begins waiting values : List ℕ} {w : ℕ} {s : Reading} {i : ℕ}
-    (r : Running rows accepting cs sums tree n opens begins waiting values w s i) where
-  pub few-wait : w ≤ 2048
-  few-wait = omega (arith, r .room, r .reads .within, r .reads .few)
+module _ {pool words accepting cs sums tree opens₀ begins₀ waiting₀ values₀ opens begins waiting values : List ℕ} {w : ℕ} {s : Reading} {i : ℕ}
+    (r : Running pool words accepting cs sums tree opens₀ begins₀ waiting₀ values₀ opens begins waiting values w s i) where
+  abbrev rows : List Row
+  rows = rowsIn pool words
+
+  -- what waits has its place
+  pub few-wait : (w ≤ 2048) × (w ≤ length waiting) × (w ≤ length values)
+  few-wait = (
+    omega (arith, r .room, r .reads .within, r .reads .few),
+    omega (arith, r .room, r .reads .within, r .waiting-long, r .space .waiting-room),
+    omega (arith, r .room, r .reads .within, r .values-long, r .space .values-room),
+  )
 
   module _ (l : i < length tree) where
     -- the entry at hand, and the entries after it
-    here : run (nodeOf rows n cs sums) (numbered accepting cs) (stackOf (s .depth) opens) (stackOf (s .depth) begins) (take w waiting) (take w values) i (getD tree i 0 ∷ drop (i + 1) tree)
-        ≡ machine rows n accepting cs sums tree
+    here : run (nodeOf rows cs sums) (numbered accepting cs) (stackOf (s .depth) opens) (stackOf (s .depth) begins) (take w waiting) (take w values) i (getD tree i 0 ∷ drop (i + 1) tree)
+        ≡ machine rows accepting cs sums tree
     here = rw (drop-next tree i l) at (r .same)
 
     -- the entry opens a node
     module _ (t : Reading) (e : stepOf s (getD tree i 0) ≡ Opens t) (well : WellFormed tree) where
-      pub open-room : (t .depth - 1 < 2048) × (1 ≤ t .depth)
-      open-room =
-          let x = opened (r .reads) l t e in
-          let b = open-bound tree well (i + 1) (x .within) in
-          (omega (arith, x .depth-is, x .few, step-opens s t (getD tree i 0) e .1), omega (arith, step-opens s t (getD tree i 0) e .1))
+      open-deep : 2 * t .depth ≤ length tree
+      open-deep = let x = opened (r .reads) l t e in omega (arith, x .depth-is, open-bound tree well (i + 1) (x .within))
 
-      open-same : (d : ℕ) → d ≡ s .depth → d < 2048
-          → run (nodeOf rows n cs sums) (numbered accepting cs) (stackOf (suc d) (set opens d (getD tree i 0))) (stackOf (suc d) (set begins d w)) (take w waiting) (take w values) (i + 1) (drop (i + 1) tree)
-          ≡ machine rows n accepting cs sums tree
-      open-same d q m =
-          let size : length (take w waiting) ≡ w = length-take-le w waiting (omega (arith, few-wait, r .waiting-long)) in
-          let h = sym (run-open (nodeOf rows n cs sums) (numbered accepting cs) (stackOf (s .depth) opens) (stackOf (s .depth) begins) (take w waiting) (take w values) i (getD tree i 0) (drop (i + 1) tree)
+      pub open-room : (t .depth - 1 < length opens) × (t .depth - 1 < length begins) × (1 ≤ t .depth)
+      open-room =
+          let up : t .depth ≡ suc (s .depth) = step-opens s t (getD tree i 0) e .1 in
+          (omega (arith, open-deep, r .opens-long, r .space .opens-room), omega (arith, open-deep, r .begins-long, r .space .begins-room), omega arith)
+
+      open-same : (d : ℕ) → d ≡ s .depth → d < length opens → d < length begins
+          → run (nodeOf rows cs sums) (numbered accepting cs) (stackOf (suc d) (set opens d (getD tree i 0))) (stackOf (suc d) (set begins d w)) (take w waiting) (take w values) (i + 1) (drop (i + 1) tree)
+          ≡ machine rows accepting cs sums tree
+      open-same d q mo mb =
+          let size : length (take w waiting) ≡ w = length-take-le w waiting (few-wait .1) in
+          let h = sym (run-open (nodeOf rows cs sums) (numbered accepting cs) (stackOf (s .depth) opens) (stackOf (s .depth) begins) (take w waiting) (take w values) i (getD tree i 0) (drop (i + 1) tree)
           (step-opens s t (getD tree i 0) e .0)) ∙ here in
-          rw (push d opens (getD tree i 0) (omega (arith, r .opens-long)), push d begins w (omega (arith, r .begins-long)), q) (rw size at h)
+          rw (push d opens (getD tree i 0) mo, push d begins w mb, q) (rw size at h)
 
       pub node-opens : (opens′ begins′ : List ℕ) → (opens′ ≡ set opens (t .depth - 1) (getD tree i 0)) × (begins′ ≡ set begins (t .depth - 1) w)
-          → Running rows accepting cs sums tree n opens′ begins′ waiting values w t (i + 1)
+          → Running pool words accepting cs sums tree opens₀ begins₀ waiting₀ values₀ opens′ begins′ waiting values w t (i + 1)
       node-opens opens′ begins′ stored =
           let up : t .depth ≡ suc (s .depth) = step-opens s t (getD tree i 0) e .1 in
           let q : t .depth - 1 ≡ s .depth = omega arith in
-          let m : t .depth - 1 < 2048 = open-room .0 in
           let top : t .depth ≡ t .depth - 1 + 1 = omega arith in
-          let there : getD (set begins (t .depth - 1) w) (t .depth - 1) 0 ≡ w = getD-set-same begins (t .depth - 1) w 0 (omega (arith, r .begins-long)) in
+          let there : getD (set begins (t .depth - 1) w) (t .depth - 1) 0 ≡ w = getD-set-same begins (t .depth - 1) w 0 (open-room .1) in
           let other : (j : ℕ) → j < t .depth - 1 → getD (set begins (t .depth - 1) w) j 0 ≡ getD begins j 0 = λ j lt. getD-set-other begins (t .depth - 1) j w 0 (omega arith) in
           let under′ : (j : ℕ) → j < t .depth - 1 + 1 → getD (set begins (t .depth - 1) w) j 0 ≤ w
           = below-more (λ (j : ℕ). getD (set begins (t .depth - 1) w) j 0 ≤ w) (t .depth - 1) (λ j lt. rw (other j lt) (r .under j (omega arith))) (rw there (omega arith)) in
           rw (stored .0, stored .1) (record {
             reads = opened (r .reads) l t e;
+            space = r .space;
             opens-long = length-set opens (t .depth - 1) (getD tree i 0) ∙ r .opens-long;
             begins-long = length-set begins (t .depth - 1) w ∙ r .begins-long;
             waiting-long = r .waiting-long;
             values-long = r .values-long;
             room = omega (arith, r .room);
-            deep = omega arith;
+            deep = open-deep;
             some = λ p. omega arith;
             under = λ j lt. under′ j (omega arith);
             sorted = λ j k le lt.
@@ -238,9 +258,9 @@ module _ {rows accepting cs sums tree : List ℕ} {n : ℕ} {opens begins waitin
             placed = r .placed;
             below = r .below;
             same =
-                ap (λ (k : ℕ). run (nodeOf rows n cs sums) (numbered accepting cs) (stackOf k (set opens (t .depth - 1) (getD tree i 0))) (stackOf k (set begins (t .depth - 1) w)) (take w waiting) (take w values) (i + 1) (drop (i + 1) tree))
+                ap (λ (k : ℕ). run (nodeOf rows cs sums) (numbered accepting cs) (stackOf k (set opens (t .depth - 1) (getD tree i 0))) (stackOf k (set begins (t .depth - 1) w)) (take w waiting) (take w values) (i + 1) (drop (i + 1) tree))
                 (top ∙ add-one (t .depth - 1))
-                ∙ open-same (t .depth - 1) q m;
+                ∙ open-same (t .depth - 1) q (open-room .0) (open-room .1);
           })
 
     -- the entry closes a node, whose children stand from b on among those that wait
@@ -248,20 +268,28 @@ module _ {rows accepting cs sums tree : List ℕ} {n : ℕ} {opens begins waitin
       deeper : s .depth ≡ suc (t .depth)
       deeper = step-closes s t (getD tree i 0) e .1
 
-      pub close-depth : t .depth < 2048
-      close-depth = omega (arith, deeper, r .deep)
+      pub close-depth : (t .depth < length opens) × (t .depth < length begins) × (t .depth < 2048)
+      close-depth = (
+        omega (arith, deeper, r .deep, r .opens-long, r .space .opens-room),
+        omega (arith, deeper, r .deep, r .begins-long, r .space .begins-room),
+        omega (arith, deeper, r .deep, r .space .short),
+      )
 
       pub close-under : b ≤ w
       close-under = rw at (r .under (t .depth) (omega (arith, deeper)))
 
-      pub close-room : b < 2048
-      close-room = omega (arith, close-under, deeper, r .room, r .reads .within, r .reads .few)
+      pub close-room : (b < length waiting) × (b < length values) × (b < 2048)
+      close-room = (
+        omega (arith, close-under, deeper, r .room, r .reads .within, r .waiting-long, r .space .waiting-room),
+        omega (arith, close-under, deeper, r .room, r .reads .within, r .values-long, r .space .values-room),
+        omega (arith, close-under, deeper, r .room, r .reads .within, r .space .short),
+      )
 
       -- the children's states and values
       children : ValuesFit cs (take (w - b) (drop b waiting)) (take (w - b) (drop b values))
       children =
-          let len-w : length (take (w - b) (drop b waiting)) ≡ w - b = length-take-le (w - b) (drop b waiting) (rw (length-drop b waiting) (omega (arith, few-wait, close-under, r .waiting-long))) in
-          let len-v : length (take (w - b) (drop b values)) ≡ w - b = length-take-le (w - b) (drop b values) (rw (length-drop b values) (omega (arith, few-wait, close-under, r .values-long))) in
+          let len-w : length (take (w - b) (drop b waiting)) ≡ w - b = length-take-le (w - b) (drop b waiting) (rw (length-drop b waiting) (omega (arith, few-wait .1, close-under))) in
+          let len-v : length (take (w - b) (drop b values)) ≡ w - b = length-take-le (w - b) (drop b values) (rw (length-drop b values) (omega (arith, few-wait .2, close-under))) in
           let at-w : (k : ℕ) → k < w - b → getD (take (w - b) (drop b waiting)) k 0 ≡ getD waiting (b + k) 0 = λ k lt. getD-take (w - b) (drop b waiting) k 0 lt ∙ getD-drop b waiting k 0 in
           let at-v : (k : ℕ) → k < w - b → getD (take (w - b) (drop b values)) k 0 ≡ getD values (b + k) 0 = λ k lt. getD-take (w - b) (drop b values) k 0 lt ∙ getD-drop b values k 0 in
           record {
@@ -270,42 +298,43 @@ module _ {rows accepting cs sums tree : List ℕ} {n : ℕ} {opens begins waitin
             below = λ k lt. let lk : k < w - b = rw len-w at lt in rw (at-w k lk, at-v k lk) (r .below (b + k) (omega arith));
           }
 
-      pub close-fits : {offsets heads next : List ℕ} → RankReady rows accepting offsets heads next cs sums n
-          → Closable rows n cs sums (getD opens (t .depth) 0) (take (w - b) (drop b waiting)) (take (w - b) (drop b values))
+      pub close-fits : {by : ℕ} {heads : List ℕ} → RankReady by pool words heads accepting cs sums
+          → Closable rows cs sums (getD opens (t .depth) 0) (take (w - b) (drop b waiting)) (take (w - b) (drop b values))
       close-fits ready = closes-within ready (getD opens (t .depth) 0) (take (w - b) (drop b waiting)) (take (w - b) (drop b values)) children
 
       -- the machine at the bar
-      at-bar : run (nodeOf rows n cs sums) (numbered accepting cs) (getD opens (t .depth) 0 ∷ stackOf (t .depth) opens) (b ∷ stackOf (t .depth) begins) (take w waiting) (take w values) i (getD tree i 0 ∷ drop (i + 1) tree)
-          ≡ machine rows n accepting cs sums tree
+      at-bar : run (nodeOf rows cs sums) (numbered accepting cs) (getD opens (t .depth) 0 ∷ stackOf (t .depth) opens) (b ∷ stackOf (t .depth) begins) (take w waiting) (take w values) i (getD tree i 0 ∷ drop (i + 1) tree)
+          ≡ machine rows accepting cs sums tree
       at-bar = rw (at, ← (pop (t .depth) opens), ← (pop (t .depth) begins), ← deeper) here
 
-      parts : (o : Node) → nodeOf rows n cs sums (getD opens (t .depth) 0) (take (w - b) (drop b waiting)) (take (w - b) (drop b values)) ≡ o
-          → nodeOf rows n cs sums (getD opens (t .depth) 0) (drop b (take w waiting)) (drop b (take w values)) ≡ o
+      parts : (o : Node) → nodeOf rows cs sums (getD opens (t .depth) 0) (take (w - b) (drop b waiting)) (take (w - b) (drop b values)) ≡ o
+          → nodeOf rows cs sums (getD opens (t .depth) 0) (drop b (take w waiting)) (drop b (take w values)) ≡ o
       parts o h = rw (drop-take b w waiting, drop-take b w values) h
 
-      pub node-sticks : nodeOf rows n cs sums (getD opens (t .depth) 0) (take (w - b) (drop b waiting)) (take (w - b) (drop b values)) ≡ Stuck
-          → refused 14 i ≡ machine rows n accepting cs sums tree
+      pub node-sticks : nodeOf rows cs sums (getD opens (t .depth) 0) (take (w - b) (drop b waiting)) (take (w - b) (drop b values)) ≡ Stuck
+          → refused 14 i ≡ machine rows accepting cs sums tree
       node-sticks h =
-          sym (run-stuck (nodeOf rows n cs sums) (numbered accepting cs) (stackOf (t .depth) opens) (stackOf (t .depth) begins) (take w waiting) (take w values) i
+          sym (run-stuck (nodeOf rows cs sums) (numbered accepting cs) (stackOf (t .depth) opens) (stackOf (t .depth) begins) (take w waiting) (take w values) i
           (getD opens (t .depth) 0) b (getD tree i 0) (drop (i + 1) tree) (step-closes s t (getD tree i 0) e .0) (parts Stuck h))
           ∙ at-bar
 
       -- the front of an array after the store at b
-      front : (xs : List ℕ) (x : ℕ) → length xs ≡ 2048 → take (b + 1) (set xs b x) ≡ take b (take w xs) ++ (x ∷ [])
-      front xs x full = rw (add-one b, take-suc-set xs b x (omega (arith, close-room)), take-take b w xs close-under)
+      front : (xs : List ℕ) (x : ℕ) → b < length xs → take (b + 1) (set xs b x) ≡ take b (take w xs) ++ (x ∷ [])
+      front xs x lt = rw (add-one b, take-suc-set xs b x lt, take-take b w xs close-under)
 
-      pub node-closes : {offsets heads next : List ℕ} → RankReady rows accepting offsets heads next cs sums n → (q v : ℕ)
-          → nodeOf rows n cs sums (getD opens (t .depth) 0) (take (w - b) (drop b waiting)) (take (w - b) (drop b values)) ≡ Reaches q v
+      pub node-closes : {by : ℕ} {heads : List ℕ} → RankReady by pool words heads accepting cs sums → (q v : ℕ)
+          → nodeOf rows cs sums (getD opens (t .depth) 0) (take (w - b) (drop b waiting)) (take (w - b) (drop b values)) ≡ Reaches q v
           → (waiting′ values′ : List ℕ) → (waiting′ ≡ set waiting b q) × (values′ ≡ set values b v)
-          → Running rows accepting cs sums tree n opens begins waiting′ values′ (b + 1) t (i + 1)
+          → Running pool words accepting cs sums tree opens₀ begins₀ waiting₀ values₀ opens begins waiting′ values′ (b + 1) t (i + 1)
       node-closes ready q v h waiting′ values′ stored =
           let x = node-below ready (getD opens (t .depth) 0) (take (w - b) (drop b waiting)) (take (w - b) (drop b values)) children q v h in
-          let here-w : getD (set waiting b q) b 0 ≡ q = getD-set-same waiting b q 0 (omega (arith, close-room, r .waiting-long)) in
-          let here-v : getD (set values b v) b 0 ≡ v = getD-set-same values b v 0 (omega (arith, close-room, r .values-long)) in
+          let here-w : getD (set waiting b q) b 0 ≡ q = getD-set-same waiting b q 0 (close-room .0) in
+          let here-v : getD (set values b v) b 0 ≡ v = getD-set-same values b v 0 (close-room .1) in
           let other-w : (j : ℕ) → j < b → getD (set waiting b q) j 0 ≡ getD waiting j 0 = λ j lt. getD-set-other waiting b j q 0 (omega arith) in
           let other-v : (j : ℕ) → j < b → getD (set values b v) j 0 ≡ getD values j 0 = λ j lt. getD-set-other values b j v 0 (omega arith) in
           rw (stored .0, stored .1) (record {
             reads = shut (r .reads) l t e;
+            space = r .space;
             opens-long = r .opens-long;
             begins-long = r .begins-long;
             waiting-long = length-set waiting b q ∙ r .waiting-long;
@@ -315,18 +344,18 @@ module _ {rows accepting cs sums tree : List ℕ} {n : ℕ} {opens begins waitin
             some = λ p. omega arith;
             under = λ j lt. omega (arith, at, r .sorted j (t .depth) (omega arith) (omega (arith, deeper)));
             sorted = λ j k le lt. r .sorted j k le (omega (arith, deeper));
-            placed = below-more (λ (j : ℕ). getD (set waiting b q) j 0 < 256) b (λ j lt. rw (other-w j lt) (r .placed j (omega (arith, close-under)))) (rw here-w (x .0));
+            placed = below-more (λ (j : ℕ). getD (set waiting b q) j 0 < length cs) b (λ j lt. rw (other-w j lt) (r .placed j (omega (arith, close-under)))) (rw here-w (x .0));
             below = below-more (λ (j : ℕ). getD (set values b v) j 0 < held cs (getD (set waiting b q) j 0)) b
                 (λ j lt. rw (other-w j lt, other-v j lt) (r .below j (omega (arith, close-under)))) (rw (here-w, here-v) (x .1));
             same =
-                rw (front waiting q (r .waiting-long), front values v (r .values-long))
-                (sym (run-close (nodeOf rows n cs sums) (numbered accepting cs) (stackOf (t .depth) opens) (stackOf (t .depth) begins) (take w waiting) (take w values) i
+                rw (front waiting q (close-room .0), front values v (close-room .1))
+                (sym (run-close (nodeOf rows cs sums) (numbered accepting cs) (stackOf (t .depth) opens) (stackOf (t .depth) begins) (take w waiting) (take w values) i
                 (getD opens (t .depth) 0) b (getD tree i 0) (drop (i + 1) tree) (step-closes s t (getD tree i 0) e .0) q v (parts (Reaches q v) h))
                 ∙ at-bar);
           })
 
     -- no entry of a tree is refused
-    pub not-refused : (f : Refusal) → stepOf s (getD tree i 0) ≡ Refuses f → WellFormed tree → refusedBy f ≡ machine rows n accepting cs sums tree
+    pub not-refused : (f : Refusal) → stepOf s (getD tree i 0) ≡ Refuses f → WellFormed tree → refusedBy f ≡ machine rows accepting cs sums tree
     not-refused f e well =
         let z : refusedBy f ≡ result 0 = refused-here (r .reads) l f e (result 0) ∙ tree-then-taken tree well (r .reads .few) (result 0) in
         let y : _≡_ {A = ℕ} 0 1 = cc in
@@ -346,11 +375,14 @@ module _ {rows accepting cs sums tree : List ℕ} {n : ℕ} {opens begins waitin
         let d : s .depth ≡ openAfter 0 tree = r .reads .depth-is ∙ ap (openAfter 0) (take-all i tree g) in
         omega (arith, r .some some-read, ltb-false 0 (openAfter 0 tree) (ends .1))
 
-    pub end-sums : {offsets heads next : List ℕ} → RankReady rows accepting offsets heads next cs sums n → Summable accepting cs (getD waiting 0 0) (getD values 0 0)
+    pub end-room : (0 < length waiting) × (0 < length values)
+    end-room = (omega (arith, one-waits, few-wait .1), omega (arith, one-waits, few-wait .2))
+
+    pub end-sums : {by : ℕ} {heads : List ℕ} → RankReady by pool words heads accepting cs sums → Summable accepting cs (getD waiting 0 0) (getD values 0 0)
     end-sums ready = record { below = r .below 0 one-waits; placed = ready .placed; small = ready .total }
 
-    pub tree-ends : numbered accepting cs (getD waiting 0 0) (getD values 0 0) (i - 1) ≡ machine rows n accepting cs sums tree
+    pub tree-ends : numbered accepting cs (getD waiting 0 0) (getD values 0 0) (i - 1) ≡ machine rows accepting cs sums tree
     tree-ends =
         let h = rw (drop-of-length-le tree {i = i} g) at (r .same) in
         rw (getD-take w waiting 0 0 one-waits, getD-take w values 0 0 one-waits) at
-        (sym (run-end (nodeOf rows n cs sums) (numbered accepting cs) (stackOf (s .depth) opens) (stackOf (s .depth) begins) (take w waiting) (take w values) i) ∙ h)
+        (sym (run-end (nodeOf rows cs sums) (numbered accepting cs) (stackOf (s .depth) opens) (stackOf (s .depth) begins) (take w waiting) (take w values) i) ∙ h)

@@ -11,6 +11,7 @@ use Rattle.model.specs.Count.{sum}
 use Rattle.model.specs.Value.{horner}
 use Rattle.chains.specs.declared.Found.{Found}
 use Rattle.chains.specs.declared.Found.the-variants.{At, Nothing}
+use Rattle.model.specs.Table.{Row}
 use Rattle.index.specs.Index.{rowFound}
 use Rattle.counts.specs.Chain.{target}
 use Rattle.counts.specs.States.{held}
@@ -18,13 +19,13 @@ use Rattle.rank.specs.declared.Node.{Node}
 use Rattle.rank.specs.declared.Node.the-variants.{Reaches, Stuck}
 
 -- the state and the value by the row that was found
-abbrev pub nodeBy : Found → (rows cs sums xs vs : List ℕ) → Node
+abbrev pub nodeBy : Found → (rows : List Row) (cs sums xs vs : List ℕ) → Node
 nodeBy (At k) rows cs sums xs vs = Reaches (target rows k) (horner (held cs) 0 xs vs + getD sums k 0)
 nodeBy Nothing rows cs sums xs vs = Stuck
 
 -- the state and the value of a tree with symbol s, whose children have the states xs and the values vs
-unfoldable pub nodeOf : (rows : List ℕ) (n : ℕ) (cs sums : List ℕ) (s : ℕ) (xs vs : List ℕ) → Node
-nodeOf rows n cs sums s xs vs = nodeBy (rowFound rows n s xs) rows cs sums xs vs
+unfoldable pub nodeOf : (rows : List Row) (cs sums : List ℕ) (s : ℕ) (xs vs : List ℕ) → Node
+nodeOf rows cs sums s xs vs = nodeBy (rowFound rows s xs) rows cs sums xs vs
 
 -- the number of a tree with the state q and the value v; 14 at the place where the state is not listed
 unfoldable pub numbered : (accepting cs : List ℕ) (q v place : ℕ) → Outcome
@@ -47,5 +48,5 @@ run node end opens begins ws vs place (e ∷ es) =
     else run node end (e ∷ opens) (length ws ∷ begins) ws vs (place + 1) es
 
 -- a tree's entries from the first
-abbrev pub machine : (rows : List ℕ) (n : ℕ) (accepting cs sums tree : List ℕ) → Outcome
-machine rows n accepting cs sums tree = run (nodeOf rows n cs sums) (numbered accepting cs) [] [] [] [] 0 tree
+abbrev pub machine : (rows : List Row) (accepting cs sums tree : List ℕ) → Outcome
+machine rows accepting cs sums tree = run (nodeOf rows cs sums) (numbered accepting cs) [] [] [] [] 0 tree

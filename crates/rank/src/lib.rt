@@ -1,9 +1,8 @@
-// Numbering a tree.
+// Numbering a tree of a table that passes.
 use chains::Found;
 use model::Answer;
 use model::Kind;
 use model::refused_answer;
-use table::Checked;
 use tree::Form;
 use tree::Reading;
 use tree::Step;
@@ -13,12 +12,12 @@ ghost use lib.ListN.{length, set};
 ghost use Rattle.model.specs.Answers.{outcome};
 ghost use Rattle.model.specs.Tree.{WellFormed};
 ghost use Rattle.model.specs.Value.{horner};
-ghost use Rattle.model.specs.Number.{numberOutcome};
-ghost use Rattle.rows.specs.Laid.{Laid};
+ghost use Rattle.model.specs.Entries.{treeThen};
+ghost use Rattle.rows.specs.Words.{rowsIn, nexts, Held};
 ghost use Rattle.index.specs.Index.{Index};
 ghost use Rattle.counts.specs.States.{held};
 ghost use Rattle.rank.specs.Machine.{nodeOf, numbered, machine};
-ghost use Rattle.rank.specs.RankReady.{Foldable, Closable, Summable, RankReady};
+ghost use Rattle.rank.specs.RankReady.{Foldable, Closable, Summable, RankReady, StackRoom};
 
 // What closing a node gives: the state that the tree reaches and its value there; or that it reaches none.
 enum Node {
@@ -27,7 +26,7 @@ enum Node {
 }
 
 // The children's values as one: for each child from the first, multiply by the count of its state and add its value.
-fn fold(states: &[u16], values: &[u64], counts: &[u64; 256]) -> u64
+fn fold(states: &[u16], values: &[u64], counts: &[u64]) -> u64
     requires { ⌜ Foldable (now counts) (now states) (now values) ⌝ }
     ensures { λ r. ⌜ r ≡ horner (held (now (counts .entry))) 0 (now (states .entry)) (now (values .entry)) ⌝ }
 {
@@ -42,27 +41,28 @@ fn fold(states: &[u16], values: &[u64], counts: &[u64; 256]) -> u64
 
 // The state and the value of a tree with this symbol, whose children have these states and values.
 fn close(
-    rows: &[u16],
-    offsets: &[u16; 1024],
-    heads: &[u16; 2048],
-    next: &[u16; 1024],
-    n: usize,
-    counts: &[u64; 256],
-    sums: &[u64; 1024],
+    pool: &[u16],
+    words: &[u64],
+    heads: &[u16],
+    by: u64,
+    counts: &[u64],
+    sums: &[u64],
     symbol: u16,
     states: &[u16],
     values: &[u64],
 ) -> Node
-    requires { ⌜ Laid (now rows) (now offsets) n ⌝ }
-    requires { ⌜ Index (now rows) n (now heads) (now next) ⌝ }
-    requires { ⌜ Closable (now rows) n (now counts) (now sums) symbol (now states) (now values) ⌝ }
-    ensures { λ r. ⌜ r ≡ nodeOf (now (rows .entry)) n (now (counts .entry)) (now (sums .entry))
+    requires { ⌜ Held (now pool) (now words) (length (now words)) ⌝ }
+    requires { ⌜ Index by (rowsIn (now pool) (now words)) (now heads) (nexts (now words)) ⌝ }
+    requires { ⌜ (length (now words) ≤ length (now sums)) × Closable (rowsIn (now pool) (now words)) (now counts) (now sums) symbol (now states) (now values) ⌝ }
+    ensures { λ r. ⌜ r ≡ nodeOf (rowsIn (now (pool .entry)) (now (words .entry))) (now (counts .entry)) (now (sums .entry))
         symbol (now (states .entry)) (now (values .entry)) ⌝ }
 {
-    match index::find_row(rows, offsets, heads, next, n, symbol, states) {
+    match index::find_row(pool, words, heads, by, symbol, states) {
         Found::At(k) => {
-            let at = chains::wide(offsets[k]);
-            Node::Reaches(rows[at + 1], fold(states, values, counts) + sums[k])
+            Node::Reaches(
+                rows::target_in(words[k]),
+                fold(states, values, counts) + sums[k],
+            )
         }
         Found::Nothing => Node::Stuck,
     }
@@ -70,7 +70,7 @@ fn close(
 
 // The number of a tree with this state and value; 14 at the given place if the state is not listed. The value is added last, so that no sum
 // goes beyond the total.
-fn number_in(accepting: &[u16], counts: &[u64; 256], q: u16, value: u64, place: usize) -> Answer
+fn number_in(accepting: &[u16], counts: &[u64], q: u16, value: u64, place: usize) -> Answer
     requires { ⌜ Summable (now accepting) (now counts) q value ⌝ }
     ensures { λ r. ⌜ outcome r ≡ numbered (now (accepting .entry)) (now (counts .entry)) q value place ⌝ }
 {
@@ -88,8 +88,8 @@ fn number_in(accepting: &[u16], counts: &[u64; 256], q: u16, value: u64, place: 
 }
 
 // Opens a node inside d open ones: stores its symbol, and how many states are waiting.
-fn open_node(opens: &mut [u16; 2048], begins: &mut [u16; 2048], d: usize, symbol: u16, w: usize)
-    requires { ⌜ (d < 2048) × (w ≤ 2048) ⌝ }
+fn open_node(opens: &mut [u16], begins: &mut [u16], d: usize, symbol: u16, w: usize)
+    requires { ⌜ (d < length (now opens)) × (d < length (now begins)) × (w ≤ 2048) ⌝ }
     ensures { λ r. ⌜ (now (opens .exit) ≡ set (now (opens .entry)) d symbol) × (now (begins .exit) ≡ set (now (begins .entry)) d w) ⌝ }
 {
     opens[d] = symbol;
@@ -97,44 +97,43 @@ fn open_node(opens: &mut [u16; 2048], begins: &mut [u16; 2048], d: usize, symbol
 }
 
 // Stores the state and the value of a closed node in place of its children's, which stand from b on.
-fn store_closed(waiting: &mut [u16; 2048], values: &mut [u64; 2048], b: usize, q: u16, v: u64)
-    requires { ⌜ b < 2048 ⌝ }
+fn store_closed(waiting: &mut [u16], values: &mut [u64], b: usize, q: u16, v: u64)
+    requires { ⌜ (b < length (now waiting)) × (b < length (now values)) ⌝ }
     ensures { λ r. ⌜ (now (waiting .exit) ≡ set (now (waiting .entry)) b q) × (now (values .exit) ≡ set (now (values .entry)) b v) ⌝ }
 {
     waiting[b] = q;
     values[b] = v;
 }
 
-// The number of a tree, entry by entry: an entry opens a node, or closes one whose children's states and values are waiting.
+// The number of a tree, entry by entry: an entry opens a node, or closes one whose children's states and values are waiting. Of each open node
+// `opens` has its symbol and `begins` how many states were waiting when it was opened; the first w of `waiting` and `values` are the states and the
+// values of closed nodes that wait for their parent's bar.
 fn number_tree(
-    rows: &[u16],
+    pool: &[u16],
     accepting: &[u16],
     tree: &[u16],
-    offsets: &[u16; 1024],
-    heads: &[u16; 2048],
-    next: &[u16; 1024],
-    counts: &[u64; 256],
-    sums: &[u64; 1024],
-    n: usize,
+    words: &[u64],
+    heads: &[u16],
+    by: u64,
+    counts: &[u64],
+    sums: &[u64],
+    opens: &mut [u16],
+    begins: &mut [u16],
+    waiting: &mut [u16],
+    values: &mut [u64],
 ) -> Answer
-    requires { ⌜ RankReady (now rows) (now accepting) (now offsets) (now heads) (now next) (now counts) (now sums) n ⌝ }
-    requires { ⌜ WellFormed (now tree) × (length (now tree) ≤ 4096) ⌝ }
-    ensures { λ r. ⌜ outcome r ≡ machine (now (rows .entry)) n (now (accepting .entry))
+    requires { ⌜ RankReady by (now pool) (now words) (now heads) (now accepting) (now counts) (now sums) ⌝ }
+    requires { ⌜ WellFormed (now tree) × StackRoom (now tree) (now opens) (now begins) (now waiting) (now values) ⌝ }
+    ensures { λ r. ⌜ outcome r ≡ machine (rowsIn (now (pool .entry)) (now (words .entry))) (now (accepting .entry))
         (now (counts .entry)) (now (sums .entry)) (now (tree .entry)) ⌝ }
 {
-    // of each open node: its symbol, and how many states were waiting when it was opened
-    let mut opens = [0u16; 2048];
-    let mut begins = [0u16; 2048];
-    // the first w: the states and the values of closed nodes that wait for their parent's bar
-    let mut waiting = [0u16; 2048];
-    let mut values = [0u64; 2048];
     let mut w: usize = 0;
     let mut s = Reading::new();
     let mut i: usize = 0;
     while i < tree.len() {
         match s.entry(tree[i]) {
             Step::Opens(t) => {
-                open_node(&mut opens, &mut begins, t.depth - 1, tree[i], w);
+                open_node(opens, begins, t.depth - 1, tree[i], w);
                 s = t;
                 i += 1;
             }
@@ -142,11 +141,10 @@ fn number_tree(
                 let d = t.depth;
                 let b = chains::wide(begins[d]);
                 match close(
-                    rows,
-                    offsets,
+                    pool,
+                    words,
                     heads,
-                    next,
-                    n,
+                    by,
                     counts,
                     sums,
                     opens[d],
@@ -154,7 +152,7 @@ fn number_tree(
                     &values[b..w],
                 ) {
                     Node::Reaches(q, v) => {
-                        store_closed(&mut waiting, &mut values, b, q, v);
+                        store_closed(waiting, values, b, q, v);
                         w = b + 1;
                         s = t;
                         i += 1;
@@ -173,45 +171,59 @@ fn number_tree(
     number_in(accepting, counts, waiting[0], values[0], i - 1)
 }
 
-// Numbers a tree of a table.
-pub fn number(states: u64, rows: &[u16], accepting: &[u16], tree: &[u16]) -> Answer
-    ensures { λ r. ⌜ outcome r ≡ numberOutcome states (now (rows .entry)) (now (accepting .entry)) (now (tree .entry)) ⌝ }
+// The number of a tree of at most 4,096 entries: at most 2,048 nodes are open or waiting.
+fn number_formed(
+    pool: &[u16],
+    accepting: &[u16],
+    tree: &[u16],
+    words: &[u64],
+    heads: &[u16],
+    by: u64,
+    counts: &[u64],
+    sums: &[u64],
+) -> Answer
+    requires { ⌜ RankReady by (now pool) (now words) (now heads) (now accepting) (now counts) (now sums) ⌝ }
+    requires { ⌜ WellFormed (now tree) × (length (now tree) ≤ 4096) ⌝ }
+    ensures { λ r. ⌜ outcome r ≡ machine (rowsIn (now (pool .entry)) (now (words .entry))) (now (accepting .entry))
+        (now (counts .entry)) (now (sums .entry)) (now (tree .entry)) ⌝ }
 {
-    let mut offsets = [0u16; 1024];
-    let mut heads = [0u16; 2048];
-    let mut next = [0u16; 1024];
-    let mut first = [0u16; 256];
-    let mut after = [0u16; 1024];
-    let mut counts = [0u64; 256];
-    let mut longest = [0u64; 256];
-    let mut sums = [0u64; 1024];
-    match table::check_into(
-        states,
-        rows,
+    let mut opens = [0u16; 2048];
+    let mut begins = [0u16; 2048];
+    let mut waiting = [0u16; 2048];
+    let mut values = [0u64; 2048];
+    number_tree(
+        pool,
         accepting,
-        &mut offsets,
-        &mut heads,
-        &mut next,
-        &mut first,
-        &mut after,
-        &mut counts,
-        &mut longest,
-        &mut sums,
-    ) {
-        Checked::Refuses(r) => Answer::Refused(r),
-        Checked::Sound(_, n) => match tree::check_tree(tree) {
-            Form::Refuses(r) => Answer::Refused(r),
-            Form::Tree => number_tree(
-                rows,
-                accepting,
-                tree,
-                &offsets,
-                &heads,
-                &next,
-                &counts,
-                &sums,
-                n,
-            ),
-        },
+        tree,
+        words,
+        heads,
+        by,
+        counts,
+        sums,
+        &mut opens,
+        &mut begins,
+        &mut waiting,
+        &mut values,
+    )
+}
+
+// Numbers a tree of a table that passes, by what its check leaves.
+pub fn number_prepared(
+    pool: &[u16],
+    accepting: &[u16],
+    tree: &[u16],
+    words: &[u64],
+    heads: &[u16],
+    by: u64,
+    counts: &[u64],
+    sums: &[u64],
+) -> Answer
+    requires { ⌜ RankReady by (now pool) (now words) (now heads) (now accepting) (now counts) (now sums) ⌝ }
+    ensures { λ r. ⌜ outcome r ≡ treeThen (now (tree .entry)) (machine (rowsIn (now (pool .entry)) (now (words .entry))) (now (accepting .entry))
+        (now (counts .entry)) (now (sums .entry)) (now (tree .entry))) ⌝ }
+{
+    match tree::check_tree(tree) {
+        Form::Refuses(r) => Answer::Refused(r),
+        Form::Tree => number_formed(pool, accepting, tree, words, heads, by, counts, sums),
     }
 }

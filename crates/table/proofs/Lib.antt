@@ -1,4 +1,4 @@
 pub mod Entries
-pub mod Rows
 pub mod Outcomes
-pub mod Blank
+pub mod Counting
+pub mod Taken

@@ -1,59 +1,28 @@
 -- Laws of the check's outcome, part by part. Assumes nothing.
-use Prim.Native.Nat.{ℕ, _<_, _≤_, min}
-use mathlib.Core.Path.{_≡_, sym, ap, _∙_}
-use mathlib.Core.List.{List, map}
+use Prim.Native.Nat.{ℕ, _<_, _≤_}
+use mathlib.Core.Path.{_≡_, sym, ap, subst, _∙_}
+use mathlib.Core.List.{List, _++_}
 use native.Mathlib.Omega.{arith}
-use lib.ListN.{length, getD}
+use lib.ListN.{length, getD, take, drop, length-map, length-append}
+use lib.Seq.{take-append-seam}
 use borrow.Author.Tests.{lt-ltb, le-ltb}
-use Rattle.model.specs.declared.Kind.{Kind}
 use Rattle.model.specs.declared.Refusal.{Refusal}
-use Rattle.model.specs.Answers.{Outcome, result, refused, kindNumber, refusedBy}
+use Rattle.model.specs.Answers.{Outcome, refused, refusedBy, outcome}
 use Rattle.model.specs.Choice.{firstFaulty}
-use Rattle.model.specs.Table.{rowStart, howManyRows, tableOf}
-use Rattle.model.specs.Count.{sum, count, total}
-use Rattle.model.specs.Check.{rowGround, acceptingGround, stateGround, countsOutcome, checkWithin, checkOutcome, countLimit}
+use Rattle.model.specs.Table.{Row, noRow, rowNumbered, howManyRows, rowsOf, tableOf, acceptingStates}
+use Rattle.model.specs.Check.{rowGround, acceptingGround, countsOutcome, checkWithin, checkOutcome, countLimit}
 use Rattle.model.proofs.Choice.{no-fault, fault-refused}
-use Rattle.model.proofs.Counting.{map-agree}
-use Rattle.model.proofs.Rows.{args-length}
-use Rattle.model.proofs.Checked.{row-good, entry-good, state-good}
+use Rattle.model.proofs.Rows.{rowsOf-length, rowsOf-at}
+use Rattle.model.proofs.Checked.{row-good, entry-good}
 use Rattle.chains.specs.First.{AllFine, FirstAt}
-use Rattle.rows.specs.Laid.{Laid}
-use Rattle.index.specs.Index.{Index}
-use Rattle.counts.specs.Chain.{InOrder, Chained}
-use Rattle.counts.specs.States.{ceiling, held, ArgsWithin, rowTable, CountsKnown}
-use Rattle.counts.proofs.All.{ground-same}
-use Rattle.table.specs.declared.Checked.{Checked}
+use Rattle.rows.specs.Words.{rowsIn, rowNo, afterIn, afters}
+use Rattle.rows.proofs.Words.{rows-long, after-at}
+use Rattle.index.specs.Taken.{AllTaken}
+use Rattle.counts.specs.Chain.{InOrder}
 use Rattle.table.specs.declared.Checked.the-variants.{Sound, Refuses}
-use Rattle.table.specs.Checked.{StatesReady, StatesAnswer, Prepared, CheckAnswer}
-use Rattle.model.proofs.Numbers.{kind-positive}
-
--- rows without fault are in order
-pub in-order : (states : ℕ) (rows : List ℕ) (n : ℕ) → states ≤ 256 → AllFine n (rowGround states rows) → InOrder states rows n
-in-order states rows n few fine = record {
-  few = few;
-  short = λ r lt. let g = row-good states rows r (fine r lt) in omega (arith, args-length rows (rowStart rows r) (g .whole), g .few-args);
-  known = λ r lt. row-good states rows r (fine r lt) .in-range .target-fits;
-  lower = λ r lt. row-good states rows r (fine r lt) .ordered;
-}
-
--- the accepting states have counts within the limit
-pub entries-within : {states : ℕ} {rows accepting cs ls sums : List ℕ} → states ≤ 256 → AllFine (length accepting) (acceptingGround states accepting)
-    → CountsKnown states rows states cs ls sums → ArgsWithin countLimit cs accepting
-entries-within {states} {rows} {accepting} {cs} {ls} {sums} few fine x = record {
-  placed = λ k lt. omega (arith, entry-good states accepting k (fine k lt) .state);
-  small = λ k lt. small (getD accepting k 0) (entry-good states accepting k (fine k lt) .state);
-}
-  where
-    small : (a : ℕ) → a < states → held cs a ≤ countLimit
-    small a l = rw (x .counts a l) (state-good countLimit (rowTable states rows) a (x .fine a l) .0)
-
-total-same : (states : ℕ) (rows accepting cs : List ℕ) → ((k : ℕ) → k < length accepting → held cs (getD accepting k 0) ≡ count (rowTable states rows) (getD accepting k 0))
-    → sum (map (held cs) accepting) ≡ total (tableOf states rows accepting)
-unfolding total count
-total-same states rows accepting cs e = ap sum (map-agree (held cs) (count (rowTable states rows)) 0 accepting e)
-
-not-sound : {A : Type 0} (f : Refusal) (t m : ℕ) → Refuses f ≡ Sound t m → A
-not-sound f t m h = let z : _≡_ {A = ℕ} 0 1 = cc in absurd (omega arith)
+use Rattle.model.specs.declared.Answer.{Answer}
+use Rattle.model.specs.declared.Answer.the-variants.{Result, Refused}
+use Rattle.table.specs.Checked.{Blank, StatesReady, StatesCounted, StatesAnswer, PreparedRows, CheckAnswer}
 
 -- the check from the states on, and from the accepting list on
 unfoldable fromStates : (states : ℕ) (rows accepting : List ℕ) → Outcome
@@ -96,73 +65,88 @@ module _ (states : ℕ) (rows accepting : List ℕ) where
         from-states : fromStates states rows accepting ≡ checkOutcome states rows accepting
         from-states = states-is ∙ from-entries
 
--- a faulty state: 9 or 10
-fault-is : (states : ℕ) (rows accepting : List ℕ) (q : ℕ) (k : Kind) → FirstAt states (stateGround countLimit (rowTable states rows)) q (kindNumber k)
-    → refused (kindNumber k) q ≡ fromStates states rows accepting
-unfolding fromStates
-fault-is states rows accepting q k f =
-    fault-refused states q (kindNumber k) (stateGround countLimit (tableOf states rows accepting)) _ (f .inside)
-    (λ j l. ground-same states rows accepting j ∙ f .before j l) (ground-same states rows accepting q ∙ f .here) (kind-positive k)
+-- a refusal leaves nothing to say of the arrays
+pub refused-answer : {states : ℕ} {rows accepting words heads first counts longest sums : List ℕ} (f : Refusal) → refusedBy f ≡ checkOutcome states rows accepting
+    → CheckAnswer states rows accepting words heads first counts longest sums (Refuses f)
+refused-answer f h = record { answer = h; passed = λ t n by e. let z : _≡_ {A = ℕ} 0 1 = cc in absurd (omega arith) }
 
--- no faulty state: the total decides
-module _ (states : ℕ) (rows accepting cs ls sums : List ℕ) (fine : AllFine (length accepting) (acceptingGround states accepting)) (x : CountsKnown states rows states cs ls sums)
-    (t : ℕ) (e : t ≡ min (sum (map (held cs) accepting)) ceiling) where
-  total-kept : t ≡ min (total (tableOf states rows accepting)) ceiling
-  total-kept = e ∙ ap (λ (v : ℕ). min v ceiling) (total-same states rows accepting cs (λ k lt. x .counts (getD accepting k 0) (entry-good states accepting k (fine k lt) .state)))
+-- ---- the states
 
-  states-clear : (o : Outcome) → firstFaulty states (stateGround countLimit (tableOf states rows accepting)) o ≡ o
-  states-clear o = no-fault states (stateGround countLimit (tableOf states rows accepting)) o (λ a l. ground-same states rows accepting a ∙ x .fine a l)
+-- rows without fault are in order
+rows-order : (states : ℕ) (rows : List ℕ) → AllFine (howManyRows rows) (rowGround states rows) → InOrder states (rowsOf rows)
+rows-order states rows fine = record {
+  known = λ r l. subst (λ (x : Row). x .target < states) (at r l) (row-good states rows r (fine r (inside r l)) .in-range .target-fits);
+  lower = λ r l. subst (λ (x : Row). (k : ℕ) → k < length (x .args) → getD (x .args) k 0 < x .target) (at r l) (row-good states rows r (fine r (inside r l)) .ordered);
+}
+  where
+    inside : (r : ℕ) → r < length (rowsOf rows) → r < howManyRows rows
+    inside r l = rw (rowsOf-length rows) at l
 
-  -- above the limit: 11
-  over-is : countLimit < t → refused 11 0 ≡ fromStates states rows accepting
-  unfolding fromStates
-  over-is gt = rw (states-clear _, lt-ltb countLimit (total (tableOf states rows accepting)) (omega (arith, total-kept)))
+    at : (r : ℕ) → r < length (rowsOf rows) → rowNumbered rows r ≡ rowNo (rowsOf rows) r
+    at r l = sym (rowsOf-at rows r noRow (inside r l))
 
-  pass-is : t ≤ countLimit → result t ≡ fromStates states rows accepting
-  unfolding fromStates
-  pass-is le =
-      let y : t ≡ total (tableOf states rows accepting) = omega (arith, total-kept) in
-      rw (states-clear _, le-ltb countLimit (total (tableOf states rows accepting)) (omega (arith, total-kept)), y)
+module _ (accepting words : List ℕ) (n : ℕ) {by states : ℕ} {rows heads : List ℕ} (few : states ≤ 256) (x : AllTaken by states rows (take n words) heads n) where
+  rows-fine : AllFine (howManyRows rows) (rowGround states rows)
+  rows-fine = rw (x .all) at (x .fine)
 
--- the answer where none of the grounds 1 to 7 holds
-module _ {states : ℕ} {rows accepting : List ℕ} {n : ℕ} {offsets first₀ after₀ cs₀ ls₀ sums₀ : List ℕ} (s : StatesReady states rows accepting n offsets first₀ after₀ cs₀ ls₀ sums₀) where
-  left : fromStates states rows accepting ≡ checkOutcome states rows accepting
-  left = from-states states rows accepting (s .few) (rw (s .all) at (s .rows-fine)) (s .entries-fine)
-
-  states-refused : {first after cs ls sums : List ℕ} (f : Refusal) → refusedBy f ≡ fromStates states rows accepting → StatesAnswer states rows accepting n first after cs ls sums (Refuses f)
-  states-refused f h = record {
-    answer = h ∙ left;
-    rows-are = λ t m z. not-sound f t m z;
-    chained = λ t m z. not-sound f t m z;
-    known = λ t m z. not-sound f t m z;
-  }
-
-  pub states-fault : {first after cs ls sums : List ℕ} (q : ℕ) (k : Kind) (f : Refusal) → refusedBy f ≡ refused (kindNumber k) q
-      → FirstAt states (stateGround countLimit (rowTable states rows)) q (kindNumber k) → StatesAnswer states rows accepting n first after cs ls sums (Refuses f)
-  states-fault q k f e x = states-refused f (e ∙ fault-is states rows accepting q k x)
-
-  module _ {cs ls sums : List ℕ} (x : CountsKnown states rows states cs ls sums) (t : ℕ) (e : t ≡ min (sum (map (held cs) accepting)) ceiling) where
-    pub states-over : {first after : List ℕ} (f : Refusal) → countLimit < t → refusedBy f ≡ refused 11 0 → StatesAnswer states rows accepting n first after cs ls sums (Refuses f)
-    states-over f gt h = states-refused f (h ∙ over-is states rows accepting cs ls sums (s .entries-fine) x t e gt)
-
-    pub states-pass : {first after : List ℕ} → t ≤ countLimit → Chained rows 0 n first after → StatesAnswer states rows accepting n first after cs ls sums (Sound t n)
-    states-pass le c = record {
-      answer = pass-is states rows accepting cs ls sums (s .entries-fine) x t e le ∙ left;
-      rows-are = λ t′ m z. let y : n ≡ m = cc in sym y;
-      chained = λ t′ m z. c;
-      known = λ t′ m z. x;
+  module _ (entries-fine : AllFine (length accepting) (acceptingGround states accepting)) where
+    pub states-ready : {heads₀ words₀ first counts longest sums : List ℕ} → Blank states rows words₀ heads₀ first counts longest sums → n ≤ length words₀
+        → StatesReady states rows (take n words) accepting first counts longest sums
+    states-ready b le = record {
+      rows-held = rw (x .long) (x .held);
+      ordered = rw (x .same) (rows-order states rows rows-fine);
+      unchained = record { firsts = b .first-empty; afters = λ r l. free r l };
+      room = record {
+        first-room = b .first-room few;
+        cs-room = b .counts-room few;
+        ls-room = b .longest-room few;
+        sums-room = omega (arith, rows-long rows (take n words), x .long, b .sums-room);
+      };
+      listed = λ i l. entry-good states accepting i (entries-fine i l) .state;
     }
+      where
+        free : (r : ℕ) → r < length (afters (take n words)) → getD (afters (take n words)) r 0 ≡ 0
+        free r l =
+            let m : r < length (take n words) = rw (length-map (take n words) afterIn) at l in
+            after-at (take n words) r m ∙ x .free r (rw (x .long) at m)
 
--- the answer of the whole check
-module _ {states : ℕ} {rows accepting offsets heads next first after counts longest′ sums : List ℕ} where
-  pub refused-answer : (f : Refusal) → refusedBy f ≡ checkOutcome states rows accepting → CheckAnswer states rows accepting offsets heads next first after counts longest′ sums (Refuses f)
-  refused-answer f h = record { answer = h; prepared = λ t m z. not-sound f t m z }
+    -- what is answered from the states on is what the check answers
+    from-here : countsOutcome countLimit (record { states = states; rows = rowsIn rows (take n words); accepting = acceptingStates accepting }) ≡ checkOutcome states rows accepting
+    unfolding fromStates
+    from-here = ap (λ (rs : List Row). countsOutcome countLimit (record { states = states; rows = rs; accepting = acceptingStates accepting })) (x .same) ∙ from-states states rows accepting few rows-fine entries-fine
 
-  pub states-answer : (n : ℕ) (r : Checked) → n ≡ howManyRows rows → Laid rows offsets n → Index rows n heads next → StatesAnswer states rows accepting n first after counts longest′ sums r
-      → CheckAnswer states rows accepting offsets heads next first after counts longest′ sums r
-  states-answer n r all laid index x = record { answer = x .answer; prepared = λ t m z. ready t m z }
-    where
-      ready : (t m : ℕ) → r ≡ Sound t m → Prepared states rows offsets heads next first after counts longest′ sums m
-      ready t m z =
-          let y : m ≡ n = x .rows-are t m z in
-          rw y (record { all = all; laid = laid; index = index; chained = x .chained t m z; known = x .known t m z })
+    module _ {ys first counts longest sums : List ℕ} {r : Answer} (y : StatesAnswer states rows (take n words) accepting ys first counts longest sums r) where
+      pub total-refused : {words′ heads′ : List ℕ} (f : Refusal) → r ≡ Refused f → CheckAnswer states rows accepting words′ heads′ first counts longest sums (Refuses f)
+      total-refused f e = refused-answer f (ap outcome (sym e) ∙ y .answer ∙ from-here)
+
+      -- the table passes: the part that was lent is what the first n words hold then
+      pub total-passed : (t : ℕ) → r ≡ Result t → (words′ : List ℕ) → words′ ≡ ys ++ drop n words → CheckAnswer states rows accepting words′ heads first counts longest sums (Sound t n by)
+      total-passed t e words′ is = record { answer = ap outcome (sym e) ∙ y .answer ∙ from-here; passed = λ t′ m by′ h. other t′ m by′ h }
+        where
+          z : StatesCounted states rows (take n words) ys first counts longest sums
+          z = y .counted t e
+
+          long : length ys ≡ n
+          long = sym (rows-long rows ys) ∙ ap length (z .same) ∙ rows-long rows (take n words) ∙ x .long
+
+          part : take n words′ ≡ ys
+          part = ap (take n) is ∙ ap (λ (k : ℕ). take k (ys ++ drop n words)) (sym long) ∙ take-append-seam ys (drop n words)
+
+          ready : PreparedRows by states rows words′ heads first counts longest sums n
+          ready = record {
+            long = rw (is, length-append ys (drop n words)) (omega (arith, long));
+            same = rw part (z .same ∙ x .same);
+            prepared = rw part (record {
+              rows-held = z .rows-held;
+              index = rw (z .same, z .links) (x .index);
+              chained = z .chained;
+              room = z .room;
+              known = z .known;
+            });
+          }
+
+          other : (t′ m by′ : ℕ) → Sound t n by ≡ Sound t′ m by′ → PreparedRows by′ states rows words′ heads first counts longest sums m
+          other t′ m by′ h =
+              let a : n ≡ m = cc in
+              let b : by ≡ by′ = cc in
+              rw (← a, ← b) ready

@@ -1,23 +1,105 @@
 // Checking a table.
 use chains::Found;
+use chains::wider;
 use counts::StateFault;
+use index::Walked;
+use index::two_at;
 use model::Answer;
 use model::Kind;
 use model::Refusal;
 use model::refuse;
-use rows::Walked;
 ghost use mathlib.Core.Path.{_≡_};
 ghost use Prim.Native.Nat.{_≤_};
 ghost use lib.ListN.{length};
-ghost use Rattle.model.specs.Answers.{outcome};
-ghost use Rattle.model.specs.Check.{checkOutcome};
-ghost use Rattle.chains.specs.Chains.{Clear};
-ghost use Rattle.table.specs.Checked.{EntriesChecked, RowsChecked, StatesReady, StatesAnswer, Blank, CheckAnswer};
+ghost use Rattle.index.specs.Hash.{Multiplier};
+ghost use Rattle.table.specs.Checked.{Empty, CrowdReady, RowsReady, RowsChecked, EntriesChecked, StatesReady, StatesAnswer, Blank, CheckAnswer};
 
-// What the internal check finds: the total and how many rows there are, or the refusal.
+// How many rows there are and the multiplier of their index, or the first faulty row and its ground.
+enum CheckedRows {
+    Passed(usize, u64),
+    Stopped(usize, Kind),
+}
+
+// What the internal check finds: the total, how many rows there are and the multiplier of their index; or the refusal.
 pub enum Checked {
-    Sound(u64, usize),
+    Sound(u64, usize, u64),
     Refuses(Refusal),
+}
+
+// The multiplier with which rows are first indexed.
+const MULTIPLIER: u64 = 2654435769;
+
+// The most rows of a bucket that are looked at then. A row that falls into a bucket with more makes it crowded.
+const MOST: usize = 8;
+
+// One number more in a digest. Which numbers it gives is of no account for any answer.
+fn digest(h: u64, x: u64) -> u64 {
+    let p = (h ^ x) % 4294967296 * 2654435769 ^ x / 4294967296 * 2246822519;
+    p ^ p / 4294967296
+}
+
+// The entries from a place on, one by one.
+fn digest_rest(start: u64, rows: &[u16], from: usize) -> u64 {
+    let mut h = start;
+    let mut i = from;
+    while i < rows.len() {
+        h = digest(h, wider(rows[i]));
+        i += 1;
+    }
+    h
+}
+
+// A multiplier made from all entries of the rows, an odd one. Rows that share a bucket by one multiplier seldom do by another; there are rows that do
+// by all, and they are compared one by one.
+fn own_multiplier(rows: &[u16]) -> u64
+    ensures { λ r. ⌜ Multiplier r ⌝ }
+{
+    let mut h: u64 = 0;
+    let mut i: usize = 0;
+    while 3 < rows.len() - i {
+        h = digest(h, two_at(rows, i) + two_at(rows, i + 2) * 4294967296);
+        i += 4;
+    }
+    2147483649 + digest_rest(h, rows, i) % 536870911 * 2
+}
+
+// Empties the buckets.
+fn empty(heads: &mut [u16])
+    ensures { λ _. ⌜ Empty (now (heads .exit)) ⌝ }
+{
+    let mut i: usize = 0;
+    while i < heads.len() {
+        heads[i] = 0;
+        i += 1;
+    }
+}
+
+// Takes the rows once more, with empty buckets and the table's own multiplier, however many rows fall into one bucket.
+fn check_crowded(states: u64, rows: &[u16], words: &mut [u64], heads: &mut [u16]) -> CheckedRows
+    requires { ⌜ CrowdReady states (now rows) (now words) (now heads) ⌝ }
+    ensures { λ r. ⌜ RowsChecked states (now (rows .entry)) (now (words .exit)) (now (heads .exit)) r ⌝ }
+{
+    empty(heads);
+    let by = own_multiplier(rows);
+    match index::take_rows(states, rows, by, 2048, words, heads) {
+        Walked::Passed(n) => CheckedRows::Passed(n, by),
+        Walked::Stopped(n, kind) => CheckedRows::Stopped(n, kind),
+        // not reached: no bucket has more than 1,024 rows
+        Walked::Crowded => CheckedRows::Stopped(0, Kind::RepeatedRow),
+    }
+}
+
+// Tests the rows in turn by the grounds 2 to 6, and stores their words and their index. Gives how many there are, or the first faulty one. Where a
+// bucket holds too many rows they are indexed once more, with the table's own multiplier.
+fn check_rows(states: u64, rows: &[u16], words: &mut [u64], heads: &mut [u16]) -> CheckedRows
+    requires { ⌜ RowsReady states (now rows) (now words) (now heads) ⌝ }
+    ensures { λ r. ⌜ RowsChecked states (now (rows .entry)) (now (words .exit)) (now (heads .exit)) r ⌝ }
+{
+    match index::take_rows(states, rows, MULTIPLIER, MOST, words, heads) {
+        Walked::Passed(n) => CheckedRows::Passed(n, MULTIPLIER),
+        Walked::Stopped(n, kind) => CheckedRows::Stopped(n, kind),
+        Walked::Crowded => check_crowded(states, rows, words, heads),
+    }
 }
 
 // The first accepting entry that is no state or equals an earlier one: 7.
@@ -41,61 +123,30 @@ fn faulty_entry(states: u64, accepting: &[u16]) -> Found
     Found::Nothing
 }
 
-// Tests the rows in turn by the grounds 2 to 6, and stores their offsets and their index. Gives how many there are, or the first faulty one.
-fn check_rows(
-    states: u64,
-    rows: &[u16],
-    offsets: &mut [u16; 1024],
-    heads: &mut [u16; 2048],
-    next: &mut [u16; 1024],
-) -> Walked
-    requires { ⌜ (length (now offsets) ≡ 1024) × Clear 2048 1024 (now heads) (now next) ⌝ }
-    ensures { λ r. ⌜ RowsChecked states (now (rows .entry)) (now (offsets .exit)) (now (heads .exit)) (now (next .exit)) r ⌝ }
-{
-    let walked = rows::walk_rows(states, rows, offsets);
-    let n = rows::passed_rows(walked);
-    match index::first_duplicate(rows, &*offsets, n, heads, next) {
-        Found::At(r) => Walked::Stopped(r, Kind::RepeatedRow),
-        Found::Nothing => walked,
-    }
-}
-
 // The rest of the check, from the states on, where the rows and the accepting list are without fault.
 fn check_states(
     states: usize,
-    rows: &[u16],
+    pool: &[u16],
     accepting: &[u16],
-    n: usize,
-    offsets: &[u16; 1024],
-    first: &mut [u16; 256],
-    after: &mut [u16; 1024],
-    counts: &mut [u64; 256],
-    longest: &mut [u64; 256],
-    sums: &mut [u64; 1024],
-) -> Checked
-    requires { ⌜ StatesReady states (now rows) (now accepting) n (now offsets)
-        (now first) (now after) (now counts) (now longest) (now sums) ⌝ }
-    ensures { λ r. ⌜ StatesAnswer states (now (rows .entry)) (now (accepting .entry)) n
-        (now (first .exit)) (now (after .exit)) (now (counts .exit)) (now (longest .exit)) (now (sums .exit)) r ⌝ }
+    words: &mut [u64],
+    first: &mut [u16],
+    counts: &mut [u64],
+    longest: &mut [u16],
+    sums: &mut [u64],
+) -> Answer
+    requires { ⌜ StatesReady states (now pool) (now words) (now accepting) (now first) (now counts) (now longest) (now sums) ⌝ }
+    ensures { λ r. ⌜ StatesAnswer states (now (pool .entry)) (now (words .entry)) (now (accepting .entry)) (now (words .exit))
+        (now (first .exit)) (now (counts .exit)) (now (longest .exit)) (now (sums .exit)) r ⌝ }
 {
-    counts::chain_rows(rows, offsets, n, first, after);
-    match counts::count_states(
-        states,
-        rows,
-        offsets,
-        &*first,
-        &*after,
-        counts,
-        longest,
-        sums,
-    ) {
-        StateFault::At(q, kind) => Checked::Refuses(refuse(kind, q as u64)),
+    counts::chain_rows(pool, words, first);
+    match counts::count_states(states, pool, &*words, &*first, counts, longest, sums) {
+        StateFault::At(q, kind) => Answer::Refused(refuse(kind, q as u64)),
         StateFault::Nothing => {
             let total = counts::sum_of(accepting, &*counts);
             if counts::LIMIT < total {
-                return Checked::Refuses(refuse(Kind::TotalAboveLimit, 0));
+                return Answer::Refused(refuse(Kind::TotalAboveLimit, 0));
             }
-            Checked::Sound(total, n)
+            Answer::Result(total)
         }
     }
 }
@@ -105,69 +156,37 @@ pub fn check_into(
     states: u64,
     rows: &[u16],
     accepting: &[u16],
-    offsets: &mut [u16; 1024],
-    heads: &mut [u16; 2048],
-    next: &mut [u16; 1024],
-    first: &mut [u16; 256],
-    after: &mut [u16; 1024],
-    counts: &mut [u64; 256],
-    longest: &mut [u64; 256],
-    sums: &mut [u64; 1024],
+    words: &mut [u64],
+    heads: &mut [u16],
+    first: &mut [u16],
+    counts: &mut [u64],
+    longest: &mut [u16],
+    sums: &mut [u64],
 ) -> Checked
-    requires { ⌜ Blank (now offsets) (now heads) (now next) (now first) (now after) (now counts) (now longest) (now sums) ⌝ }
-    ensures { λ r. ⌜ CheckAnswer states (now (rows .entry)) (now (accepting .entry))
-        (now (offsets .exit)) (now (heads .exit)) (now (next .exit)) (now (first .exit)) (now (after .exit))
-        (now (counts .exit)) (now (longest .exit)) (now (sums .exit)) r ⌝ }
+    requires { ⌜ Blank states (now rows) (now words) (now heads) (now first) (now counts) (now longest) (now sums) ⌝ }
+    ensures { λ r. ⌜ CheckAnswer states (now (rows .entry)) (now (accepting .entry)) (now (words .exit)) (now (heads .exit))
+        (now (first .exit)) (now (counts .exit)) (now (longest .exit)) (now (sums .exit)) r ⌝ }
 {
     if 256 < states {
         return Checked::Refuses(refuse(Kind::TooManyStates, 0));
     }
-    match check_rows(states, rows, offsets, heads, next) {
-        Walked::Stopped(r, kind) => Checked::Refuses(refuse(kind, r as u64)),
-        Walked::Passed(n) => match faulty_entry(states, accepting) {
+    match check_rows(states, rows, words, heads) {
+        CheckedRows::Stopped(r, kind) => Checked::Refuses(refuse(kind, r as u64)),
+        CheckedRows::Passed(n, by) => match faulty_entry(states, accepting) {
             Found::At(i) => Checked::Refuses(refuse(Kind::AcceptingEntry, i as u64)),
-            Found::Nothing => check_states(
+            Found::Nothing => match check_states(
                 states as usize,
                 rows,
                 accepting,
-                n,
-                &*offsets,
+                &mut words[..n],
                 first,
-                after,
                 counts,
                 longest,
                 sums,
-            ),
+            ) {
+                Answer::Refused(r) => Checked::Refuses(r),
+                Answer::Result(total) => Checked::Sound(total, n, by),
+            },
         },
-    }
-}
-
-// Checks a table and gives its total.
-pub fn check(states: u64, rows: &[u16], accepting: &[u16]) -> Answer
-    ensures { λ r. ⌜ outcome r ≡ checkOutcome states (now (rows .entry)) (now (accepting .entry)) ⌝ }
-{
-    let mut offsets = [0u16; 1024];
-    let mut heads = [0u16; 2048];
-    let mut next = [0u16; 1024];
-    let mut first = [0u16; 256];
-    let mut after = [0u16; 1024];
-    let mut counts = [0u64; 256];
-    let mut longest = [0u64; 256];
-    let mut sums = [0u64; 1024];
-    match check_into(
-        states,
-        rows,
-        accepting,
-        &mut offsets,
-        &mut heads,
-        &mut next,
-        &mut first,
-        &mut after,
-        &mut counts,
-        &mut longest,
-        &mut sums,
-    ) {
-        Checked::Sound(total, _) => Answer::Result(total),
-        Checked::Refuses(r) => Answer::Refused(r),
     }
 }

@@ -35,7 +35,7 @@ pub extern "C" fn treenum_check(
 ) -> u32
     ensures { λ r. ⌜ Returned (checkOutcome states (now (rows .entry)) (now (accepting .entry))) r (now (value .exit)) ⌝ }
 {
-    give(table::check(states, rows, accepting), value)
+    give(operations::check(states, rows, accepting), value)
 }
 
 // Numbers a tree: returns 0 and puts its number, or returns the refusal's number and puts its place.
@@ -49,7 +49,7 @@ pub extern "C" fn treenum_number(
 ) -> u32
     ensures { λ r. ⌜ Returned (numberOutcome states (now (rows .entry)) (now (accepting .entry)) (now (tree .entry))) r (now (value .exit)) ⌝ }
 {
-    give(rank::number(states, rows, accepting, tree), value)
+    give(operations::number(states, rows, accepting, tree), value)
 }
 
 // Writes the tree of a number: returns 0, puts the count of entries and leaves them at the front of the list; or returns the
@@ -67,7 +67,10 @@ pub extern "C" fn treenum_write(
         (writeList states (now (rows .entry)) (now (accepting .entry)) number (now (tree .entry)))
         r (now (value .exit)) (now (tree .exit)) ⌝ }
 {
-    give(unrank::write(states, rows, accepting, number, tree), value)
+    give(
+        operations::write(states, rows, accepting, number, tree),
+        value,
+    )
 }
 
 // Reads a term: returns 0, puts the count of the tree's entries and leaves them at the front of the list; or returns the

@@ -36,7 +36,7 @@ module _ {accepting counts : List ℕ} {number : ℕ} (x : ListReady accepting c
   seek-begins q e = record { inside = some-listed; here = e; passed = omega arith }
 
   module _ {i rest q : ℕ} (s : Seeking accepting counts number i rest q) where
-    pub seek-state : q < 256
+    pub seek-state : q < length counts
     seek-state = rw (s .here) (x .states i (s .inside))
 
     abbrev ws : List ℕ

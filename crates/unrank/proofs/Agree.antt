@@ -4,20 +4,20 @@ use mathlib.Core.Path.{_≡_, refl, ap, _∙_}
 use mathlib.Core.List.{List, [], _∷_, map}
 use native.Mathlib.Omega.{arith}
 use lib.ListN.{length, getD, length-map}
-use Rattle.model.specs.Table.{Row, noRow, rowsOf, tableOf}
+use Rattle.model.specs.Table.{Row, Table, noRow}
 use Rattle.model.specs.Tree.{Tree, serial}
-use Rattle.model.specs.Count.{rowCounts, weight, count, total}
+use Rattle.model.specs.Count.{sum, rowCounts, weight, count}
 use Rattle.model.specs.Value.{Picked, findBy, childrenFrom, treeIn, treeOf}
-use Rattle.model.specs.Write.{treeEntries, entriesFor}
+use Rattle.model.specs.Write.{treeEntries}
 use Rattle.model.proofs.Good.{AllBelow, below-first, below-rest, Ordered}
 use Rattle.model.proofs.Counting.{getD-any, getD-map, map-agree, rowCounts-local, weight-local}
 use Rattle.model.proofs.Values.{FindsAt, found, found-args, depth-free}
+use Rattle.rows.specs.Words.{rowsIn, heldTable}
 use Rattle.counts.specs.States.{held}
 use Rattle.unrank.specs.declared.Spot.{Spot}
 use Rattle.unrank.specs.UnrankReady.{UnrankReady, ValueReady}
 use Rattle.unrank.specs.Trees.{valueEntries, ListReady, spotOf}
 use Rattle.unrank.specs.Written.{numberEntries}
-use Rattle.unrank.proofs.UnrankReady.{good, ordered, few, total-held}
 
 -- ---- counts that are the same for the states below give the same trees
 
@@ -52,19 +52,22 @@ tree-agree rows o c d (suc depth) q h e =
 
 -- ---- a number below the total
 
-module _ {states : ℕ} {rows accepting : List ℕ} {total : ℕ} {offsets first after counts sums : List ℕ} (x : UnrankReady states rows accepting total offsets first after counts sums)
-    (number : ℕ) (less : number < total) where
+module _ {states : ℕ} {pool words accepting first counts sums : List ℕ} (x : UnrankReady states pool words accepting first counts sums)
+    (number : ℕ) (less : number < sum (map (held counts) accepting)) where
+  abbrev T : Table
+  T = heldTable states pool words accepting
+
   abbrev c : ℕ → ℕ
-  c = count (tableOf states rows accepting)
+  c = count T
 
   abbrev ws : List ℕ
   ws = map (held counts) accepting
 
   pub listed : ListReady accepting counts number
-  listed = record { states = λ i l. omega (arith, good x .sound .listed i l, few x); less = omega (arith, total-held x) }
+  listed = record { states = λ i l. omega (arith, x .good .sound .listed i l, x .counts-room); less = less }
 
   finds : FindsAt ws number (findBy ws number)
-  finds = found ws number (listed .less)
+  finds = found ws number less
 
   inside : findBy ws number .which < length accepting
   inside = rw (length-map accepting (held counts)) at (finds .inside)
@@ -73,28 +76,27 @@ module _ {states : ℕ} {rows accepting : List ℕ} {total : ℕ} {offsets first
   q = spotOf accepting counts number .state
 
   state : q < states
-  state = good x .sound .listed (findBy ws number .which) inside
+  state = x .good .sound .listed (findBy ws number .which) inside
 
-  pub spot-valued : (s : Spot) → s ≡ spotOf accepting counts number → ValueReady rows offsets first after counts sums (s .state) (s .value)
+  pub spot-valued : (s : Spot) → s ≡ spotOf accepting counts number → ValueReady pool words first counts sums (s .state) (s .value)
   spot-valued s e = rw e (record {
     states = states;
     accepting = accepting;
-    total = total;
     ready = x;
     state = state;
     less = rw (getD-map (held counts) accepting (findBy ws number .which) 0 0 inside) at (finds .less);
   })
 
   -- the entries are those of document 01
-  pub entries-same : numberEntries rows accepting counts number ≡ entriesFor states rows accepting number
-  unfolding numberEntries valueEntries entriesFor treeEntries treeOf
+  pub entries-same : numberEntries (rowsIn pool words) accepting counts number ≡ treeEntries T number
+  unfolding numberEntries valueEntries treeEntries treeOf
   entries-same =
       let v = findBy ws number .rest in
       ap serial
-      (depth-free (rowsOf rows) (ordered x) (held counts) (suc q) states q v (omega arith) state
-      ∙ tree-agree (rowsOf rows) (ordered x) (held counts) c states q v (λ a l. x .counted a (omega (arith, state)))
-      ∙ ap (λ (p : ℕ). treeIn (rowsOf rows) c states p v) (getD-any accepting (findBy ws number .which) 0 states inside)
-      ∙ ap (λ (l : List ℕ). treeIn (rowsOf rows) c states (getD accepting (findBy l number .which) states) (findBy l number .rest)) lists-same)
+      (depth-free (T .rows) (x .good .ordered) (held counts) (suc q) states q v (omega arith) state
+      ∙ tree-agree (T .rows) (x .good .ordered) (held counts) c states q v (λ a l. x .counted a (omega (arith, state)))
+      ∙ ap (λ (p : ℕ). treeIn (T .rows) c states p v) (getD-any accepting (findBy ws number .which) 0 states inside)
+      ∙ ap (λ (l : List ℕ). treeIn (T .rows) c states (getD accepting (findBy l number .which) states) (findBy l number .rest)) lists-same)
     where
       lists-same : ws ≡ map c accepting
-      lists-same = map-agree (held counts) c 0 accepting (λ i l. x .counted (getD accepting i 0) (good x .sound .listed i l))
+      lists-same = map-agree (held counts) c 0 accepting (λ i l. x .counted (getD accepting i 0) (x .good .sound .listed i l))

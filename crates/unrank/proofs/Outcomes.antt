@@ -1,35 +1,24 @@
 -- What the parts of writing answer, put together. Assumes nothing.
 use Prim.Native.Nat.{ℕ, _<_, _≤_}
 use mathlib.Core.Path.{_≡_, refl, sym, ap, _∙_}
-use mathlib.Core.Bool.{not}
 use mathlib.Core.List.{List, _++_}
 use native.Mathlib.Omega.{arith}
 use lib.ListN.{length, drop}
-use lib.Dec.{ltb}
 use borrow.Author.Tests.{lt-ltb, le-ltb}
-use Rattle.model.specs.Answers.{Outcome, result, refused, refusedBy, outcome, lentAfter}
-use Rattle.model.specs.Choice.{if_then_else_}
-use Rattle.model.specs.Check.{checkOutcome}
-use Rattle.model.specs.Number.{checkedThen}
-use Rattle.model.specs.Write.{treeFits, writeTree, writeTreeList, entriesFor, writeOutcome, writeList}
+use Rattle.model.specs.Answers.{Outcome, result, refused, outcome, lentAfter}
+use Rattle.model.specs.Table.{Row}
+use Rattle.model.specs.Write.{treeFits}
 use Rattle.model.specs.declared.Answer.{Answer}
-use Rattle.model.specs.declared.Answer.the-variants.{Refused}
-use Rattle.model.specs.declared.Refusal.{Refusal}
-use Rattle.table.specs.declared.Checked.{Checked}
-use Rattle.table.specs.declared.Checked.the-variants.{Sound, Refuses}
-use Rattle.table.specs.Checked.{told, CheckAnswer}
 use Rattle.unrank.specs.declared.Spot.{Spot}
 use Rattle.unrank.specs.Trees.{valueEntries, Wrote, spotOf}
-use Rattle.unrank.specs.Written.{numberEntries, WroteNumber, WroteTree}
-use Rattle.unrank.proofs.UnrankReady.{checks, ready}
-use Rattle.unrank.proofs.Agree.{entries-same}
+use Rattle.unrank.specs.Written.{numberEntries, WroteNumber, writeBelow, WroteBelow}
 
 -- ---- a number below the total
 
 abbrev gives : (written old : List ℕ) → Outcome
 gives written old = treeFits (length old) (length written)
 
-module _ (rows accepting counts : List ℕ) (number : ℕ) (s : Spot) (e : s ≡ spotOf accepting counts number) where
+module _ (rows : List Row) (accepting counts : List ℕ) (number : ℕ) (s : Spot) (e : s ≡ spotOf accepting counts number) where
   spot-entries : valueEntries rows counts (s .state) (s .value) ≡ numberEntries rows accepting counts number
   unfolding numberEntries
   spot-entries = rw e
@@ -58,44 +47,17 @@ module _ (rows accepting counts : List ℕ) (number : ℕ) (s : Spot) (e : s ≡
             ∙ sym (ap (λ (o : Outcome). lentAfter o (numberEntries rows accepting counts number) old) f);
       }
 
--- ---- the whole
-
--- what follows the check
-abbrev below : (states : ℕ) (rows accepting : List ℕ) (number : ℕ) (old : List ℕ) (total : ℕ) → Outcome
-below states rows accepting number old total = if not (ltb number total) then refused 15 0 else gives (entriesFor states rows accepting number) old
-
-write-by : (states : ℕ) (rows accepting : List ℕ) (number : ℕ) (old : List ℕ) (o : Outcome) → o ≡ checkOutcome states rows accepting
-    → checkedThen o (below states rows accepting number old) ≡ writeOutcome states rows accepting number (length old)
-unfolding writeOutcome writeTree entriesFor
-write-by states rows accepting number old o e = ap (λ (o : Outcome). checkedThen o (below states rows accepting number old)) e
+-- ---- any number
 
 -- the answer decides, and the list then holds what it says
-told-so : (states : ℕ) (rows accepting : List ℕ) (number : ℕ) (old new : List ℕ) (r : Answer) (o : Outcome) → outcome r ≡ o → o ≡ writeOutcome states rows accepting number (length old)
-    → new ≡ lentAfter o (entriesFor states rows accepting number) old → WroteTree states rows accepting number old new r
-unfolding writeList writeTreeList writeOutcome entriesFor
-told-so states rows accepting number old new r o a e l = record { answer = a ∙ e; list = l ∙ ap (λ (o : Outcome). lentAfter o (entriesFor states rows accepting number) old) e }
+told-so : (rows : List Row) (accepting counts : List ℕ) (total number : ℕ) (old new : List ℕ) (r : Answer) (o : Outcome) → outcome r ≡ o
+    → writeBelow total number (gives (numberEntries rows accepting counts number) old) ≡ o → new ≡ lentAfter o (numberEntries rows accepting counts number) old
+    → WroteBelow rows accepting counts total number old new r
+told-so rows accepting counts total number old new r o a e l = record { answer = a ∙ sym e; list = l ∙ ap (λ (o : Outcome). lentAfter o (numberEntries rows accepting counts number) old) (sym e) }
 
-module _ {states : ℕ} {rows accepting offsets heads next first after counts longest sums : List ℕ} {x : Checked} (c : CheckAnswer states rows accepting offsets heads next first after counts longest sums x)
-    (number : ℕ) (old : List ℕ) where
-  -- the check refuses
-  pub write-refused : (f : Refusal) → x ≡ Refuses f → WroteTree states rows accepting number old old (Refused f)
-  write-refused f e =
-      told-so states rows accepting number old old (Refused f) (refusedBy f) refl
-      (write-by states rows accepting number old (refusedBy f) (ap told (sym e) ∙ c .answer)) refl
+module _ (rows : List Row) (accepting counts : List ℕ) (total number : ℕ) (old : List ℕ) (r : Answer) where
+  pub write-above : total ≤ number → outcome r ≡ refused 15 0 → WroteBelow rows accepting counts total number old old r
+  write-above l a = told-so rows accepting counts total number old old r (refused 15 0) a (rw (le-ltb number total l)) refl
 
-  module _ (total n : ℕ) (e : x ≡ Sound total n) where
-    follows : below states rows accepting number old total ≡ writeOutcome states rows accepting number (length old)
-    follows = write-by states rows accepting number old (result total) (checks c total n e)
-
-    pub write-above : (r : Answer) → total ≤ number → outcome r ≡ refused 15 0 → WroteTree states rows accepting number old old r
-    write-above r l a =
-        let b : below states rows accepting number old total ≡ refused 15 0 = rw (le-ltb number total l) in
-        told-so states rows accepting number old old r (refused 15 0) a (sym b ∙ follows) refl
-
-    pub write-below : (r : Answer) (new : List ℕ) → number < total → WroteNumber rows accepting counts number old new r → WroteTree states rows accepting number old new r
-    write-below r new l w =
-        let s = entries-same (ready c total n e) number l in
-        let g : gives (numberEntries rows accepting counts number) old ≡ gives (entriesFor states rows accepting number) old = ap (λ (l : List ℕ). gives l old) s in
-        let b : below states rows accepting number old total ≡ gives (entriesFor states rows accepting number) old = rw (lt-ltb number total l) in
-        told-so states rows accepting number old new r (gives (entriesFor states rows accepting number) old) (w .answer ∙ g) (sym b ∙ follows)
-        (w .list ∙ ap (λ (l : List ℕ). lentAfter (gives l old) l old) s)
+  pub write-below : (new : List ℕ) → number < total → WroteNumber rows accepting counts number old new r → WroteBelow rows accepting counts total number old new r
+  write-below new l w = told-so rows accepting counts total number old new r (gives (numberEntries rows accepting counts number) old) (w .answer) (rw (lt-ltb number total l)) (w .list)

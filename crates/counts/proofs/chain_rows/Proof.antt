@@ -1,79 +1,84 @@
 -- The rows from m on are chained, and each turn puts the row before them in front of its target's chain.
-use Prim.Native.Nat.{ℕ, _<_, _≤_, _+_, _-_}
-use mathlib.Core.Path.{_≡_, ap, _∙_}
+use Prim.Native.Nat.{_<_, _≤_, _-_, _^_}
+use mathlib.Core.Path.{_≡_, _∙_}
 use native.Mathlib.Omega.{arith}
 use borrow.Author.Needs.{needs}
-use lib.ListN.{getD}
-use Rattle.model.specs.Table.{rowStart, Whole}
-use Rattle.rows.proofs.Laws.{begins, whole-at}
-use Rattle.counts.specs.Chain.{Chained, target}
-use Rattle.counts.proofs.Chain.{unchained, chain-more}
+use lib.ListN.{length, getD}
+use Rattle.rows.specs.Words.{withAfter, targetIn}
+use Rattle.counts.proofs.Chain.{Chaining, chaining-begins, row-room, target-room, word-fits, chaining-goes, chaining-ends}
 use Rattle.counts.proofs.chain_rows.Statement.{statement}
 use Rattle.counts.proofs.chain_rows.Tie as tie
 
 abbrev Inv-loop : tie.InvT-loop
-Inv-loop rows offsets n first₀ after₀ m₀ first after m = (m ≤ n) × Chained rows m n first after
+Inv-loop pool words₀ first₀ m₀ words first m = Chaining pool words₀ first₀ words first m
 
 abbrev μ-loop : tie.MeasureT-loop
-μ-loop rows offsets n first₀ after₀ m₀ first after m = m
+μ-loop pool words₀ first₀ m₀ words first m = m
 
--- where the row at hand begins, that it is whole, and its target
-start : (c : tie.After-wide Inv-loop μ-loop) → c .wide .result ≡ rowStart (c .before .before .before .before .before .args .rows .now) (c .before .before .before .loop .m - 1)
-start c = begins (c .before .before .before .before .before .pre .0) (c .before .before .before .loop .m - 1) _ (omega arith) (c .wide .ensures)
+-- the target of the row at hand, which has a place
+is : (c : tie.After-wide Inv-loop μ-loop) → c .wide .result ≡ targetIn (getD (c .before .before .before .before .loop .words) (c .before .before .before .before .loop .m - 1) 0)
+is c = c .wide .ensures ∙ c .before .target-in .ensures
 
-whole : (c : tie.After-wide Inv-loop μ-loop) → Whole (c .before .before .before .before .before .args .rows .now) (c .wide .result)
-whole c = whole-at (c .before .before .before .before .before .pre .0) (c .before .before .before .loop .m - 1) _ (omega arith) (c .wide .ensures)
+placed : (c : tie.After-wide Inv-loop μ-loop) → c .wide .result < length (c .before .before .before .before .loop .first)
+placed c = target-room (c .before .before .before .before .loop .inv) (c .before .before .before .loop-test .taken) (c .before .before .before .before .before .before .before .before .pre) _ (is c)
 
-is : (c : tie.After-wide2 Inv-loop μ-loop) → c .wide2 .result ≡ target (c .before .before .before .before .before .before .before .args .rows .now) (c .before .before .before .before .before .loop .m - 1)
-is c = c .wide2 .ensures ∙ ap (λ (k : ℕ). getD (c .before .before .before .before .before .before .before .args .rows .now) (k + 1) 0) (start (c .before .before))
+room : (c : tie.In-loop Inv-loop μ-loop) → c .before .loop .m - 1 < length (c .before .loop .words)
+room c = row-room (c .before .loop .inv) (c .loop-test .taken)
 
-state : (c : tie.After-wide2 Inv-loop μ-loop) → c .wide2 .result < 256
-state c = rw (is c) (c .before .before .before .before .before .before .before .pre .1 .0 (c .before .before .before .before .before .loop .m - 1) (omega arith))
+-- and there are at most 1,024 rows
+few : (c : tie.In-loop Inv-loop μ-loop) → c .before .loop .m ≤ 1024
+few c = omega (arith, c .before .loop .inv .within, c .before .before .before .before .before .pre .rows-held .many)
 
-last : (c : tie.After-loop Inv-loop μ-loop) → c .before .loop .m ≡ 0
-last c = omega arith
+fits : (c : tie.After-wider Inv-loop μ-loop) → withAfter (getD (c .before .before .before .before .before .before .loop .words) (c .before .before .before .before .before .before .loop .m - 1) 0) (c .wider .result) < 2 ^ 64
+fits c = word-fits (c .before .before .before .before .before .before .loop .inv) (c .before .before .before .before .before .loop-test .taken) (c .before .before .before .before .before .before .before .before .before .before .pre) _ (is (c .before .before)) _ (c .wider .ensures)
 
 loop-holds : tie.Need-loop-holds Inv-loop μ-loop
-loop-holds c = (omega arith, unchained _ _ _ _ (c .before .pre .1 .1))
+loop-holds c = chaining-begins (c .before .before .before .pre)
 
-element-copy-out-wide : tie.Need-element-copy-out-wide Inv-loop μ-loop
-element-copy-out-wide c = omega (arith, c .before .before .before .pre .0 .many)
+mul-w : tie.Need-mul-w Inv-loop μ-loop
+mul-w c = omega (arith, few c)
 
-add-wide : tie.Need-add-wide Inv-loop μ-loop
-add-wide c = omega (arith, whole c)
+slice-read-w : tie.Need-slice-read-w Inv-loop μ-loop
+slice-read-w c = room (c .before)
 
-mul-wide-2 : tie.Need-mul-wide-2 Inv-loop μ-loop
-mul-wide-2 c = omega (arith, whole c)
+mul-wider : tie.Need-mul-wider Inv-loop μ-loop
+mul-wider c = omega (arith, is c)
 
-shared-slice-read-wide : tie.Need-shared-slice-read-wide Inv-loop μ-loop
-shared-slice-read-wide c = omega (arith, whole (c .before))
+slice-read-wider : tie.Need-slice-read-wider Inv-loop μ-loop
+slice-read-wider c = placed (c .before)
 
-mul-after : tie.Need-mul-after Inv-loop μ-loop
-mul-after c = omega (arith, state c)
+mul-words : tie.Need-mul-words Inv-loop μ-loop
+mul-words c = omega (arith, fits c)
 
-element-copy-out-after : tie.Need-element-copy-out-after Inv-loop μ-loop
-element-copy-out-after c = state c
+add-words : tie.Need-add-words Inv-loop μ-loop
+add-words c = record { fits = fits c }
 
-mul-after-2 : tie.Need-mul-after-2 Inv-loop μ-loop
-mul-after-2 c = omega (arith, c .before .before .before .before .before .before .before .before .pre .0 .many)
+mul-words-2 : tie.Need-mul-words-2 Inv-loop μ-loop
+mul-words-2 c = omega (arith, few (c .before .before .before .before .before))
 
-element-write-after : tie.Need-element-write-after Inv-loop μ-loop
-element-write-after c = omega (arith, c .before .before .before .before .before .before .before .before .pre .0 .many)
+slice-write-words : tie.Need-slice-write-words Inv-loop μ-loop
+slice-write-words c = room (c .before .before .before .before .before)
 
 cast-first : tie.Need-cast-first Inv-loop μ-loop
-cast-first c = omega (arith, c .before .before .before .before .before .before .before .before .pre .0 .many)
+cast-first c = omega (arith, few (c .before .before .before .before .before))
 
 mul-first : tie.Need-mul-first Inv-loop μ-loop
-mul-first c = omega (arith, state (c .before))
+mul-first c = omega (arith, is (c .before .before))
 
-element-write-first : tie.Need-element-write-first Inv-loop μ-loop
-element-write-first c = state (c .before)
+slice-write-first : tie.Need-slice-write-first Inv-loop μ-loop
+slice-write-first c = placed (c .before .before)
 
 loop-again : tie.Need-loop-again Inv-loop μ-loop
-loop-again c = (omega arith, chain-more (c .before .before .before .before .before .before .loop .inv .1) (c .before .before .before .before .before .before .loop .m - 1) (c .before .wide2 .result) (omega arith) (omega arith) (c .before .before .before .before .before .before .before .before .pre .0 .many) (is (c .before)) (state (c .before)))
+loop-again c = chaining-goes (c .before .before .before .before .before .before .loop .inv) (c .before .before .before .before .before .loop-test .taken) (c .before .before .before .before .before .before .before .before .before .before .pre) _ (is (c .before .before)) _ (c .wider .ensures)
+
+same-length : tie.Need-same-length Inv-loop μ-loop
+same-length c = c .before .loop .inv .long
+
+same-length-2 : tie.Need-same-length-2 Inv-loop μ-loop
+same-length-2 c = c .before .loop .inv .first-long
 
 returns : tie.Need-returns Inv-loop μ-loop
-returns c = rw (last c) at (c .before .loop .inv .1)
+returns c = chaining-ends (c .before .loop .inv) (c .loop-test .left)
 
 pub chain-rows-spec : {M : Type 1} → statement M
 chain-rows-spec =
@@ -82,21 +87,23 @@ chain-rows-spec =
     Inv-loop
     μ-loop
     loop-holds
-    (λ c. search needs) (λ c. search needs)
-    element-copy-out-wide
+    (λ c. search needs)
+    mul-w
+    slice-read-w
+    (λ c κs. search needs) (λ c κs. search needs)
+    mul-wider
+    slice-read-wider
     (λ c κs. search needs)
-    add-wide
-    mul-wide-2
-    shared-slice-read-wide
-    (λ c κs. search needs)
-    mul-after
-    element-copy-out-after
-    mul-after-2
-    element-write-after
+    mul-words
+    add-words
+    mul-words-2
+    slice-write-words
     (λ c. search needs)
     cast-first
     mul-first
-    element-write-first
+    slice-write-first
     (λ c. search needs)
     loop-again
+    same-length
+    same-length-2
     returns)

@@ -19,8 +19,8 @@ abbrev μ-loop : tie.MeasureT-loop
 μ-loop args counts w₀ i₀ w i = length args - i
 
 -- the argument at hand has a place among the counts, and its count is within the limit
-placed : (c : tie.After-wide Inv-loop μ-loop) → c .wide .result < 256
-placed c = rw (c .wide .ensures) (c .before .before .before .before .before .pre .placed (c .before .before .before .loop .i) (c .before .before .loop-test .taken))
+placed : (c : tie.After-wide Inv-loop μ-loop) → c .wide .result < length (c .before .before .before .before .before .before .args .counts .now)
+placed c = rw (c .wide .ensures) (c .before .before .before .before .before .before .pre .placed (c .before .before .before .loop .i) (c .before .before .loop-test .taken))
 
 loop-holds : tie.Need-loop-holds Inv-loop μ-loop
 loop-holds c = (omega arith, omega arith, product-begins _ _)
@@ -28,18 +28,18 @@ loop-holds c = (omega arith, omega arith, product-begins _ _)
 mul-times : tie.Need-mul-times Inv-loop μ-loop
 mul-times c = omega (arith, placed c)
 
-element-copy-out-times : tie.Need-element-copy-out-times Inv-loop μ-loop
-element-copy-out-times c = placed c
+shared-slice-read-times : tie.Need-shared-slice-read-times Inv-loop μ-loop
+shared-slice-read-times c = placed (c .before)
 
 times-requires : tie.Need-times-requires Inv-loop μ-loop
-times-requires c κs = (c .before .before .before .before .loop .inv .1, rw (c .before .wide .ensures) (omega (arith, c .before .before .before .before .before .before .pre .small (c .before .before .before .before .loop .i) (c .before .before .before .loop-test .taken))))
+times-requires c κs = (c .before .before .before .before .loop .inv .1, rw (c .before .wide .ensures) (omega (arith, c .before .before .before .before .before .before .before .pre .small (c .before .before .before .before .loop .i) (c .before .before .before .loop-test .taken))))
 
 loop-again : tie.Need-loop-again Inv-loop μ-loop
 loop-again c = (
   omega arith,
   rw (c .times .ensures) (min-le-right _ _),
-  product-goes (held (c .before .before .before .before .before .before .before .args .counts .now)) (c .before .before .before .before .before .before .before .args .args .now) (c .before .before .before .before .before .loop .i) (c .before .before .before .before .loop-test .taken) ceiling (c .before .before .before .before .before .loop .w) _ _ _
-      (ap (held (c .before .before .before .before .before .before .before .args .counts .now)) (c .before .before .wide .ensures)) (c .times .ensures) (c .before .before .before .before .before .loop .inv .2),
+  product-goes (held (c .before .before .before .before .before .before .before .before .args .counts .now)) (c .before .before .before .before .before .before .before .before .args .args .now) (c .before .before .before .before .before .loop .i) (c .before .before .before .before .loop-test .taken) ceiling (c .before .before .before .before .before .loop .w) _ _ _
+      (ap (held (c .before .before .before .before .before .before .before .before .args .counts .now)) (c .before .before .wide .ensures)) (c .times .ensures) (c .before .before .before .before .before .loop .inv .2),
 )
 
 returns : tie.Need-returns Inv-loop μ-loop
@@ -54,7 +54,7 @@ row-count-spec =
     loop-holds
     (λ c. search needs) (λ c. search needs) (λ c κs. search needs)
     mul-times
-    element-copy-out-times
+    shared-slice-read-times
     times-requires
     (λ c. search needs) (λ c. search needs)
     loop-again

@@ -1,10 +1,10 @@
 -- The entries of the arguments passed and of those that are left are together those of the row; they are cut once, at the end.
 use Prim.Native.Nat.{_<_, _≤_, _+_, _*_, _-_}
-use mathlib.Core.Path.{_≡_, refl, ap}
+use mathlib.Core.Path.{_≡_, refl, ap, _∙_}
 use mathlib.Core.List.{map}
 use native.Mathlib.Omega.{arith}
 use borrow.Author.Needs.{needs}
-use lib.ListN.{length, drop}
+use lib.ListN.{length, getD, drop}
 use Rattle.model.specs.Count.{sum}
 use Rattle.counts.specs.States.{held}
 use Rattle.counts.proofs.Kept.{length-goes, length-ends}
@@ -18,31 +18,31 @@ abbrev μ-loop : tie.MeasureT-loop
 μ-loop args longest n₀ i₀ n i = length args - i
 
 -- the argument at hand has a place among the lengths
-placed : (c : tie.After-wide Inv-loop μ-loop) → c .wide .result < 256
-placed c = rw (c .wide .ensures) (c .before .before .before .before .before .pre .1 .placed (c .before .before .before .loop .i) (c .before .before .loop-test .taken))
+placed : (c : tie.After-wide Inv-loop μ-loop) → c .wide .result < length (c .before .before .before .before .before .before .args .longest .now)
+placed c = rw (c .wide .ensures) (c .before .before .before .before .before .before .pre .1 .placed (c .before .before .before .loop .i) (c .before .before .loop-test .taken))
 
--- one argument more
-next : (c : tie.After-n Inv-loop μ-loop) → c .before .before .before .before .loop .n + held (c .before .before .before .before .before .before .args .longest .now) (c .before .wide .result) + sum (map (held (c .before .before .before .before .before .before .args .longest .now)) (drop (c .before .before .before .before .loop .i + 1) (c .before .before .before .before .before .before .args .args .now))) ≡ 2 + sum (map (held (c .before .before .before .before .before .before .args .longest .now)) (c .before .before .before .before .before .before .args .args .now))
-next c = length-goes (held (c .before .before .before .before .before .before .args .longest .now)) (c .before .before .before .before .before .before .args .args .now) (c .before .before .before .before .loop .i) (c .before .before .before .loop-test .taken) _ _ _ (ap (held (c .before .before .before .before .before .before .args .longest .now)) (c .before .wide .ensures)) (c .before .before .before .before .loop .inv .1)
+-- what stands there
+here : (c : tie.After-wider Inv-loop μ-loop) → c .wider .result ≡ held (c .before .before .before .before .before .before .before .before .args .longest .now) (getD (c .before .before .before .before .before .before .before .before .args .args .now) (c .before .before .before .before .before .loop .i) 0)
+here c = c .wider .ensures ∙ ap (held (c .before .before .before .before .before .before .before .before .args .longest .now)) (c .before .before .wide .ensures)
 
-bound : (c : tie.After-n Inv-loop μ-loop) → c .before .before .before .before .loop .n + held (c .before .before .before .before .before .before .args .longest .now) (c .before .wide .result) ≤ 2 + 4096 * (c .before .before .before .before .loop .i + 1)
-bound c = rw (c .before .wide .ensures) (omega (arith, c .before .before .before .before .loop .inv .0, c .before .before .before .before .before .before .pre .1 .small (c .before .before .before .before .loop .i) (c .before .before .before .loop-test .taken)))
+-- so far they are at most 4,096 for each argument passed
+bound : (c : tie.After-wider Inv-loop μ-loop) → c .before .before .before .before .before .loop .n + c .wider .result ≤ 2 + 4096 * (c .before .before .before .before .before .loop .i + 1)
+bound c = rw (here c) (omega (arith, c .before .before .before .before .before .loop .inv .0, c .before .before .before .before .before .before .before .before .pre .1 .small (c .before .before .before .before .before .loop .i) (c .before .before .before .before .loop-test .taken)))
 
 loop-holds : tie.Need-loop-holds Inv-loop μ-loop
 loop-holds c = (omega arith, refl)
 
-mul-n : tie.Need-mul-n Inv-loop μ-loop
-mul-n c = omega (arith, placed c)
+mul-wider : tie.Need-mul-wider Inv-loop μ-loop
+mul-wider c = omega (arith, placed c)
 
-element-copy-out-n : tie.Need-element-copy-out-n Inv-loop μ-loop
-element-copy-out-n c = placed c
+shared-slice-read-wider : tie.Need-shared-slice-read-wider Inv-loop μ-loop
+shared-slice-read-wider c = placed (c .before)
 
--- so far they are at most 4,096 for each argument passed
 add-n : tie.Need-add-n Inv-loop μ-loop
-add-n c = omega (arith, bound c, c .before .before .before .before .before .before .pre .0)
+add-n c = omega (arith, bound c, c .before .before .before .before .before .before .before .before .pre .0)
 
 loop-again : tie.Need-loop-again Inv-loop μ-loop
-loop-again c = (bound c, next c)
+loop-again c = (bound c, length-goes (held (c .before .before .before .before .before .before .before .before .args .longest .now)) (c .before .before .before .before .before .before .before .before .args .args .now) (c .before .before .before .before .before .loop .i) (c .before .before .before .before .loop-test .taken) _ _ _ (here c) (c .before .before .before .before .before .loop .inv .1))
 
 returns : tie.Need-returns Inv-loop μ-loop
 returns c = omega (arith, length-ends _ _ _ _ _ (c .before .loop-test .left) (c .before .before .loop .inv .1), c .if1 .taken)
@@ -58,8 +58,9 @@ row-length-spec =
     μ-loop
     loop-holds
     (λ c. search needs) (λ c. search needs) (λ c κs. search needs)
-    mul-n
-    element-copy-out-n
+    mul-wider
+    shared-slice-read-wider
+    (λ c κs. search needs)
     add-n
     (λ c. search needs) (λ c. search needs)
     loop-again

@@ -19,8 +19,8 @@ abbrev μ-loop : tie.MeasureT-loop
 μ-loop list values total₀ i₀ total i = length list - i
 
 -- the entry at hand has a place among the counts
-placed : (c : tie.After-wide Inv-loop μ-loop) → c .wide .result < 256
-placed c = rw (c .wide .ensures) (c .before .before .before .before .before .pre .placed (c .before .before .before .loop .i) (c .before .before .loop-test .taken))
+placed : (c : tie.After-wide Inv-loop μ-loop) → c .wide .result < length (c .before .before .before .before .before .before .args .values .now)
+placed c = rw (c .wide .ensures) (c .before .before .before .before .before .before .pre .placed (c .before .before .before .loop .i) (c .before .before .loop-test .taken))
 
 loop-holds : tie.Need-loop-holds Inv-loop μ-loop
 loop-holds c = (omega arith, omega arith)
@@ -28,17 +28,17 @@ loop-holds c = (omega arith, omega arith)
 mul-plus : tie.Need-mul-plus Inv-loop μ-loop
 mul-plus c = omega (arith, placed c)
 
-element-copy-out-plus : tie.Need-element-copy-out-plus Inv-loop μ-loop
-element-copy-out-plus c = placed c
+shared-slice-read-plus : tie.Need-shared-slice-read-plus Inv-loop μ-loop
+shared-slice-read-plus c = placed (c .before)
 
 plus-requires : tie.Need-plus-requires Inv-loop μ-loop
-plus-requires c κs = (c .before .before .before .before .loop .inv .0, rw (c .before .wide .ensures) (omega (arith, c .before .before .before .before .before .before .pre .small (c .before .before .before .before .loop .i) (c .before .before .before .loop-test .taken))))
+plus-requires c κs = (c .before .before .before .before .loop .inv .0, rw (c .before .wide .ensures) (omega (arith, c .before .before .before .before .before .before .before .pre .small (c .before .before .before .before .loop .i) (c .before .before .before .loop-test .taken))))
 
 loop-again : tie.Need-loop-again Inv-loop μ-loop
 loop-again c = (
   rw (c .plus .ensures) (min-le-right _ _),
-  kept-goes (held (c .before .before .before .before .before .before .before .args .values .now)) (c .before .before .before .before .before .before .before .args .list .now) (c .before .before .before .before .before .loop .i) (c .before .before .before .before .loop-test .taken) ceiling (c .before .before .before .before .before .loop .total) _ _ _
-      (ap (held (c .before .before .before .before .before .before .before .args .values .now)) (c .before .before .wide .ensures)) (c .plus .ensures) (c .before .before .before .before .before .loop .inv .1),
+  kept-goes (held (c .before .before .before .before .before .before .before .before .args .values .now)) (c .before .before .before .before .before .before .before .before .args .list .now) (c .before .before .before .before .before .loop .i) (c .before .before .before .before .loop-test .taken) ceiling (c .before .before .before .before .before .loop .total) _ _ _
+      (ap (held (c .before .before .before .before .before .before .before .before .args .values .now)) (c .before .before .wide .ensures)) (c .plus .ensures) (c .before .before .before .before .before .loop .inv .1),
 )
 
 returns : tie.Need-returns Inv-loop μ-loop
@@ -53,7 +53,7 @@ sum-of-spec =
     loop-holds
     (λ c. search needs) (λ c. search needs) (λ c κs. search needs)
     mul-plus
-    element-copy-out-plus
+    shared-slice-read-plus
     plus-requires
     (λ c. search needs) (λ c. search needs)
     loop-again

@@ -1,7 +1,6 @@
 -- A product that fits 64 bits, since one factor is below the limit.
 use borrow.Author.Needs.{needs}
 use Rattle.counts.proofs.Kept.{fits-times}
-use borrow.Author.Needs.{needs}
 use Rattle.counts.proofs.times.Statement.{statement}
 use Rattle.counts.proofs.times.Tie as tie
 

@@ -1,42 +1,44 @@
-use Prim.Native.Nat.{ℕ, _≤_, _<_, _-_}
-use mathlib.Core.Path.{_≡_, sym, ap, _∙_}
+-- The arguments from i on are taken into the hash as all are.
+use borrow.Author.Needs.{needs}
+use Prim.Native.Nat.{_+_, _*_, _≤_, _<_, _-_}
+use mathlib.Core.Path.{_≡_, refl, sym, ap, _∙_}
 use native.Mathlib.Omega.{arith}
 use lib.ListN.{length, drop}
-use borrow.Author.Needs.{needs}
-use native.Mathlib.Nat.{mod-lt}
-use Rattle.chains.specs.Hash.{mixAll, spread}
-use Rattle.chains.proofs.Hash.{mix-step, mix-end}
-use Rattle.index.specs.Index.{hashOf}
+use Rattle.index.specs.Hash.{fours, mixAll, hashOf, spreadOver}
+use Rattle.index.proofs.Hashing.{fours-step, spread-below, hash-fits, product-fits}
 use Rattle.index.proofs.hash.Statement.{statement}
 use Rattle.index.proofs.hash.Tie as tie
 
-small : (h : ℕ) → spread 2097152 h < 2048
-small h = omega arith
-
 abbrev Inv-loop : tie.InvT-loop
-Inv-loop symbol args h₀ i₀ h i = (i ≤ length args) × (h < 4294967296) × (mixAll h (drop i args) ≡ mixAll symbol args)
+Inv-loop by size key args h₀ i₀ h i = (i ≤ length args) × (h < 4294967296) × (mixAll by h (fours (drop i args)) ≡ mixAll by key (fours args))
 
 abbrev μ-loop : tie.MeasureT-loop
-μ-loop symbol args h₀ i₀ h i = length args - i
+μ-loop by size key args h₀ i₀ h i = length args - i
 
 loop-holds : tie.Need-loop-holds Inv-loop μ-loop
-loop-holds c = (search needs, omega (arith, c .wider .ensures, c .before .before .fits .symbol), rw (c .wider .ensures))
-
-add-h : tie.Need-add-h Inv-loop μ-loop
-add-h c = omega (arith, c .wider2 .ensures, c .before .shared-slice-known2 .given (c .before .before .before .loop .i))
+loop-holds c = (omega arith, omega arith, refl)
 
 loop-again : tie.Need-loop-again Inv-loop μ-loop
 loop-again c =
-    let q = c .before .before .before in
-    let l = q .before .before .before .args .args .now in
-    (search needs, mod-lt _ (omega arith), rw (c .wider2 .ensures) (sym (mix-step (q .loop .h) l (q .loop .i) (c .before .before .loop-test .taken)) ∙ q .loop .inv .2))
+    let q = c .before .before .before .before in
+    let l = q .before .before .args .args .now in
+    let two : q .loop .i + 2 + 1 ≡ q .loop .i + 3 = omega arith in
+    let e = rw two at (c .before .two-at2 .ensures .0) in
+    (omega arith, c .mixed .ensures .1, rw (c .mixed .ensures .0, c .before .before .two-at .ensures .0, e) (sym (fours-step (q .before .before .args .by) (q .loop .h) l (q .loop .i) (c .before .before .before .loop-test .taken)) ∙ q .loop .inv .2))
+
+mul-x : tie.Need-mul-x Inv-loop μ-loop
+mul-x c = omega (arith, hash-fits (c .mix-rest .result) (c .before .before .before .before .args .by) (c .mix-rest .ensures .1) (c .before .before .before .before .pre .0))
+
+mul-result : tie.Need-mul-result Inv-loop μ-loop
+mul-result c = omega (arith, product-fits (c .mix-rest .result * c .before .before .before .before .args .by) (c .before .before .before .before .args .size) (c .before .before .before .before .pre .1 .1))
 
 returns : tie.Need-returns Inv-loop μ-loop
 unfolding hashOf
 returns c =
-    let q = c .before in
-    let l = q .before .before .before .args .args .now in
-    (ap (λ (h : ℕ). spread 2097152 h) (sym (mix-end (q .loop .h) l (q .loop .i) (c .loop-test .left)) ∙ q .loop .inv .2), small (q .loop .h))
+    let q = c .before .before in
+    let a = q .before .before .args in
+    let e = c .mix-rest .ensures .0 ∙ q .loop .inv .2 in
+    (ap (spreadOver (a .by) (a .size)) e, spread-below (a .by) (a .size) (c .mix-rest .result) (q .before .before .pre .1 .0))
 
 pub hash-spec : {M : Type 1} → statement M
 hash-spec =
@@ -44,11 +46,18 @@ hash-spec =
     (tie.spec
     Inv-loop
     μ-loop
-    (λ c κs. search needs)
     loop-holds
-    (λ c. search needs) (λ c. search needs) (λ c. search needs) (λ c κs. search needs)
-    add-h
-    (λ c. search needs) (λ c. search needs)
-    loop-again
     (λ c. search needs)
+    (λ c κs. search needs)
+    (λ c. search needs)
+    (λ c κs. search needs)
+    (λ c. search needs)
+    (λ c. search needs)
+    (λ c κs. search needs)
+    (λ c. search needs)
+    (λ c. search needs)
+    loop-again
+    (λ c κs. search needs)
+    mul-x
+    mul-result
     returns)

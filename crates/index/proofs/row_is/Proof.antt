@@ -1,22 +1,27 @@
--- The symbol decides, or else the arguments.
+-- The key decides, or else the arguments.
+use borrow.Author.Needs.{needs}
 use mathlib.Core.Path.{ap, _∙_}
 use mathlib.Core.List.{List}
 use Prim.Native.Nat.{ℕ}
-use borrow.Author.Tests.{eq-eqb, ne-eqb}
-use Rattle.model.specs.Table.{rowIs, sameList}
-use borrow.Author.Needs.{needs}
+use lib.ListN.{length}
+use Rattle.index.proofs.Laws.{key-differs, key-same, key-long}
 use Rattle.index.proofs.row_is.Statement.{statement}
 use Rattle.index.proofs.row_is.Tie as tie
 
 returns : tie.Need-returns
-unfolding rowIs
-returns c = rw (ne-eqb _ _ (c .if1 .taken))
+returns c =
+    let st = c .before .before .before in
+    key-differs (st .args .pool .now) (st .args .w) (st .args .key) (st .args .args .now) (st .pre .0) (st .pre .1) (c .if1 .taken)
+
+same-requires : tie.Need-same-requires
+same-requires c κs =
+    let st = c .before .before .before .before in
+    ap (λ (l : List ℕ). length l) (c .args-in .ensures) ∙ key-long (st .args .pool .now) (st .args .w) (st .args .key) (st .pre .0) (c .before .if1 .left) ∙ st .pre .1
 
 returns-2 : tie.Need-returns-2
-unfolding rowIs
-returns-2 c = rw (eq-eqb _ _ (c .before .before .if1 .left)) (c .same .ensures ∙ ap (λ (xs : List ℕ). sameList xs (c .before .before .before .before .before .before .args .args .now)) (c .before .args-at .ensures))
+returns-2 c =
+    let st = c .before .before .before .before .before in
+    key-same (st .args .pool .now) (st .args .w) (st .args .key) (st .args .args .now) _ _ (c .before .before .if1 .left) (c .before .args-in .ensures) (c .same .ensures)
 
 pub row-is-spec : {M : Type 1} → statement M
-row-is-spec =
-    tie.close
-    (tie.spec (λ c. search needs) (λ c. search needs) returns (λ c κs. search needs) (λ c κs. search needs) returns-2)
+row-is-spec = tie.close (tie.spec returns (λ c κs. search needs) same-requires returns-2)

@@ -1,6 +1,6 @@
 -- The part from after the head entries to the row's end is its arguments.
 use mathlib.Core.Path.{refl}
-use Rattle.rows.proofs.Laws.{part-is}
+use Rattle.rows.proofs.Walk.{part-is}
 use borrow.Author.Needs.{needs}
 use Rattle.rows.proofs.args_at.Statement.{statement}
 use Rattle.rows.proofs.args_at.Tie as tie
@@ -12,6 +12,14 @@ pub args-at-spec : {M : Type 1} → statement M
 args-at-spec =
     tie.close
     (tie.spec
-    (λ c. search needs) (λ c. search needs) (λ c. search needs) (λ c. search needs) (λ c κs. search needs) (λ c. search needs) (λ c. search needs)
-    (λ c. search needs) (λ c. search needs) (λ c. search needs)
+    (λ c. search needs)
+    (λ c. search needs)
+    (λ c. search needs)
+    (λ c. search needs)
+    (λ c κs. search needs)
+    (λ c. search needs)
+    (λ c. search needs)
+    (λ c. search needs)
+    (λ c. search needs)
+    (λ c. search needs)
     returns)
