@@ -130,6 +130,16 @@ def edges():
     yield Table(5, PAPER, []).case(), 'total 0'
     yield Table(5, PAPER[::-1], [2, 4]).case(), 'total 12'
 
+    # 95 to 97 rows of three entries; 289 entries; 64 and 65 states; 1,149 and 1,153 entries
+    for count in (95, 96, 97, 351, 352):
+        for states in (64, 65):
+            yield Table(states, many_rows(count), [1, states - 1]).case(), f'total {count - 1}'
+            yield Table(states, many_rows(count) + [[2, 0, 0]], [1]).case(), f'refused 6 {count}'
+    yield Table(64, many_rows(95) + [[1, 63, 1, 0]], [63, 1]).case(), 'total 95'
+    yield Table(64, many_rows(95) + [[1, 63, 1, 63]], [63]).case(), 'refused 5 95'
+    yield Table(64, many_rows(95) + [[1, 64, 1, 63]], [63]).case(), 'refused 4 95'
+    yield (64, flat(many_rows(96)) + [1], [1]), 'refused 2 96'
+
     # tables without rows, empty states
     yield (0, [], []), 'total 0'
     yield (0, [], [0]), 'refused 7 0'
