@@ -4,11 +4,14 @@
 mod common;
 mod table;
 
-use common::{head, print_stack, refuse, stack_use, time, Answer, Draw, Fx, Met};
+use common::{head, print_stack, refuse, stack_use, time, verdict, Answer, Draw, Fx, Met};
 use std::collections::hash_map::RandomState;
 use std::collections::HashSet;
 use std::hash::{BuildHasher, BuildHasherDefault};
-use table::{bucket, faulty, library_check, logger, paper, random_rows, treenum_check, Maker, Table, LIMIT};
+use table::{
+    bucket, bucket_before, faulty, key, last_four, library_check, logger, mix_all, packed, paper, print_fullest,
+    random_rows, treenum_check, Maker, Table, BUCKETS, LIMIT, MULTIPLIER,
+};
 
 // The same check in plain Rust
 
@@ -156,8 +159,9 @@ fn no_leaves(draw: &mut Draw) -> Table {
     maker.table(draw)
 }
 
-/// 1,024 rows of 16 arguments that all fall into one bucket; where `alike`, with one symbol and 13 equal arguments.
-fn one_bucket(draw: &mut Draw, alike: bool) -> Table {
+/// 1,024 rows of 16 arguments that all fall into one bucket by the hash before; where `alike`, with one symbol and 13
+/// equal arguments.
+fn one_bucket_before(draw: &mut Draw, alike: bool) -> Table {
     let mut maker = Maker::new(256);
     let b = draw.below(2048) as u64;
     let first: Vec<u16> = (0..16).map(|_| draw.between(0, 254)).collect();
@@ -168,9 +172,117 @@ fn one_bucket(draw: &mut Draw, alike: bool) -> Table {
             .enumerate()
             .map(|(i, &a)| if alike && i < 13 { a } else { draw.between(0, 254) })
             .collect();
-        if bucket(symbol, &args) == b {
+        if bucket_before(symbol, &args) == b {
             maker.add(symbol, 255, args);
         }
+    }
+    maker.table(draw)
+}
+
+/// 1,024 rows of 16 arguments that have the same hash by the first multiplier, and so one bucket, however many there
+/// are. Tables whose rows have the same hash by the table's own multiplier too would have to be searched for; they are
+/// not made.
+fn one_hash(draw: &mut Draw) -> Table {
+    let mut maker = Maker::new(256);
+    let v = draw.below(1 << 32) as u64;
+    while maker.rows.len() < 1024 {
+        let symbol = draw.between(1, 255);
+        let first: Vec<u16> = (0..12).map(|_| draw.between(0, 254)).collect();
+        let last = last_four(mix_all(MULTIPLIER, key(symbol, 16), &first), v);
+        if !last.contains(&255) {
+            maker.add(symbol, 255, [&first[..], &last].concat());
+        }
+    }
+    maker.table(draw)
+}
+
+/// 1,024 rows of 16 arguments with one symbol and 13 equal arguments, that have one bucket of 1,408 by the first
+/// multiplier. (Rows of the same hash differ before the last four arguments.)
+fn one_bucket(draw: &mut Draw) -> Table {
+    let mut maker = Maker::new(256);
+    let b = draw.below(BUCKETS);
+    let first: Vec<u16> = (0..13).map(|_| draw.between(0, 254)).collect();
+    while maker.rows.len() < 1024 {
+        let last: Vec<u16> = (0..3).map(|_| draw.between(0, 254)).collect();
+        let args = [&first[..], &last].concat();
+        if bucket(MULTIPLIER, BUCKETS, 1, &args) == b {
+            maker.add(1, 255, args);
+        }
+    }
+    maker.table(draw)
+}
+
+/// The same with 9 rows to a bucket, and a tenth that is the last row of the table: too many share a bucket only when
+/// all others are indexed.
+fn crowded_last(draw: &mut Draw) -> Table {
+    let mut maker = Maker::new(256);
+    let first: Vec<u16> = (0..13).map(|_| draw.between(0, 254)).collect();
+    let mut buckets = [0; 114];
+    while maker.rows.len() < 1024 {
+        let last: Vec<u16> = (0..3).map(|_| draw.between(0, 254)).collect();
+        let args = [&first[..], &last].concat();
+        let b = bucket(MULTIPLIER, BUCKETS, 1, &args);
+        if b < buckets.len() && (buckets[b] == 9) == (maker.rows.len() == 1023) && maker.add(1, 255, args) {
+            buckets[b] += 1;
+        }
+    }
+    let last = maker.rows.pop().unwrap();
+    let mut table = maker.table(draw);
+    table.rows.extend(packed(&[last]));
+    table
+}
+
+/// 1,024 rows of 16 arguments, 256 for each of 4 that are drawn: arguments 3, 7, 11 and 15, the highest of their fours,
+/// are moved so that the sum of the fours times powers of a multiplier stays the same modulo 2 to the 32nd, for every
+/// odd multiplier. An index by that sum has the 256 in one bucket.
+fn polynomial(draw: &mut Draw) -> Table {
+    let mut maker = Maker::new(256);
+    while maker.rows.len() < 1024 {
+        let symbol = draw.between(1, 255);
+        // Moves are by multiples of 16: an argument that is moved begins below 15, and so never becomes 255.
+        let drawn: Vec<u16> = (0..16).map(|i| draw.between(0, if i % 4 == 3 { 14 } else { 254 })).collect();
+        for k in 0..256 {
+            let (k1, k2, k3) = (k % 16, k / 16 % 8, k / 128);
+            let mut args = drawn.clone();
+            args[3] += 16 * k1;
+            args[7] += (112 * k1 + 32 * k2) % 256;
+            args[11] += (112 * k1 + 128 * k2 + 128 * k3) % 256;
+            args[15] += (16 * k1 + 96 * k2 + 128 * k3) % 256;
+            assert!(maker.add(symbol, 255, args));
+        }
+    }
+    maker.table(draw)
+}
+
+/// 1,024 rows over 256 states: leaves for the first 128 states, and rows of 2 arguments, any lower states.
+fn leaves_and_pairs(draw: &mut Draw) -> Table {
+    let mut maker = Maker::new(256);
+    maker.leaves(128);
+    for i in 0..896 {
+        let target = 128 + i / 7;
+        while !maker.add(
+            draw.between(1, 255),
+            target as u16,
+            (0..2).map(|_| draw.between(0, target - 1)).collect(),
+        ) {}
+    }
+    maker.table(draw)
+}
+
+/// 180 rows over 100 states, 730 entries: leaves for the first 70 states, and rows of 1 to 4 arguments, any lower
+/// states.
+fn middle(draw: &mut Draw) -> Table {
+    let mut maker = Maker::new(100);
+    maker.leaves(70);
+    let mut counts = [vec![1; 60], vec![2; 30], vec![3; 10], vec![4; 10]].concat();
+    draw.shuffle(&mut counts);
+    for (i, count) in counts.into_iter().enumerate() {
+        let target = 70 + i * 30 / 110;
+        while !maker.add(
+            draw.between(1, 255),
+            target as u16,
+            (0..count).map(|_| draw.between(0, target - 1)).collect(),
+        ) {}
     }
     maker.table(draw)
 }
@@ -206,21 +318,37 @@ fn stack(table: &Table) -> usize {
     unsafe { stack_use(treenum_check as *const (), &table.words(), plain(table)) }
 }
 
+/// What a case is held to: so many times plain Rust's time, or the library's own with random arguments.
+#[derive(Clone, Copy)]
+enum Goal {
+    Plain(f64),
+    Random(f64),
+    None,
+}
+
 fn main() {
     let mut draw = Draw(1);
     let mut tables =
         |n: usize, make: fn(&mut Draw) -> Table| -> Vec<Table> { (0..n).map(|_| make(&mut draw)).collect() };
-    let goal_large = Some(1.5);
-    let goal_small = Some(1.0);
+    let goal_large = Goal::Plain(1.5);
+    let goal_small = Goal::Plain(1.0);
+    let goal_made = Goal::Random(3.0);
+    // The first case is that of random arguments.
     let cases = [
         ("1,024 rows x 16, random arguments", goal_large, tables(8, random_rows)),
         ("1,024 rows x 16, 15 arguments shared", goal_large, tables(8, shared_rows)),
         ("1,024 rows x 16, one target", goal_large, tables(8, one_target)),
         ("1,024 rows x 16, all states empty", goal_large, tables(8, no_leaves)),
         ("40 rows, as a logger has them", goal_small, tables(64, logger)),
-        ("9 rows, the paper's table", None, vec![paper()]),
-        ("1,024 rows x 16, one bucket", None, tables(2, |draw| one_bucket(draw, false))),
-        ("1,024 rows x 16, one bucket, 13 shared", None, tables(2, |draw| one_bucket(draw, true))),
+        ("9 rows, the paper's table", Goal::None, vec![paper()]),
+        ("one bucket of the hash before", goal_made, tables(2, |draw| one_bucket_before(draw, false))),
+        ("one bucket of the hash before, 13 shared", goal_made, tables(2, |draw| one_bucket_before(draw, true))),
+        ("1,024 rows x 16, one bucket", goal_made, tables(2, one_hash)),
+        ("1,024 rows x 16, one bucket, 13 shared", goal_made, tables(2, one_bucket)),
+        ("1,024 rows x 16, crowded by the last", goal_made, tables(2, crowded_last)),
+        ("1,024 rows x 16, equal polynomials", goal_made, tables(2, polynomial)),
+        ("1,024 leaves and pairs", Goal::None, tables(8, leaves_and_pairs)),
+        ("180 rows x 0 to 4", Goal::None, tables(8, middle)),
     ];
 
     for (name, _, tables) in &cases {
@@ -232,13 +360,27 @@ fn main() {
         "{} timed tables: the answers are equal, and none is a refusal",
         cases.iter().map(|case| case.2.len()).sum::<usize>()
     );
+    for (name, goal, tables) in &cases {
+        if let Goal::Random(_) = goal {
+            tables.iter().for_each(|table| print_fullest(name, table));
+        }
+    }
     compare_faulty(&mut draw, 50_000);
 
     let most = cases.iter().flat_map(|case| &case.2).map(stack).max().unwrap();
     print_stack("treenum_check", most);
 
     head("check", "table");
-    for (name, goal, tables) in &cases {
-        time(name, *goal, tables, [&mut library_check, &mut plain, &mut plain_fx]);
+    let times = cases.each_ref().map(|(name, goal, tables)| {
+        let goal = if let Goal::Plain(most) = goal { Some(*most) } else { None };
+        time(name, goal, tables, [&mut library_check, &mut plain, &mut plain_fx])
+    });
+    println!();
+    println!("ratios of the library's time to its own with random arguments");
+    for ((name, goal, _), time) in cases.iter().zip(times) {
+        if let Goal::Random(most) = goal {
+            let ratio = time / times[0];
+            println!("{name:<40} {ratio:>8.2}  {most:.1} {}", verdict(ratio <= *most));
+        }
     }
 }

@@ -159,7 +159,12 @@ fn median(mut xs: Vec<f64>) -> f64 {
     xs[xs.len() / 2]
 }
 
-fn verdict(met: bool) -> &'static str {
+/// How many samples are taken: SAMPLES, or the program's argument.
+fn samples() -> usize {
+    std::env::args().nth(1).map_or(SAMPLES, |n| n.parse().ok().filter(|&n| n > 0).expect("a count of samples"))
+}
+
+pub fn verdict(met: bool) -> &'static str {
     match met {
         true => "met",
         false => "MISSED",
@@ -169,7 +174,7 @@ fn verdict(met: bool) -> &'static str {
 /// The head of the lines that `time` prints.
 pub fn head(one: &str, input: &str) {
     println!();
-    println!("microseconds a {one}: medians of {SAMPLES} samples");
+    println!("microseconds a {one}: medians of {} samples", samples());
     println!("ratios of the library's time to plain Rust's: medians of the samples' ratios");
     println!(
         "{input:<40} {:>9} {:>9} {:>9} {:>8} {:>13} {:>8}  {}",
@@ -177,11 +182,13 @@ pub fn head(one: &str, input: &str) {
     );
 }
 
-/// Times the library, plain Rust, and plain Rust with the other hasher, on the same inputs.
-pub fn time<T>(name: &str, goal: Option<f64>, inputs: &[T], mut runs: [Run<T>; 3]) {
+/// Times the library, plain Rust, and plain Rust with the other hasher, on the same inputs. Gives the library's median,
+/// in nanoseconds.
+pub fn time<T>(name: &str, goal: Option<f64>, inputs: &[T], mut runs: [Run<T>; 3]) -> f64 {
+    let samples = samples();
     let rounds = runs.each_mut().map(|run| rounds(*run, inputs));
     let mut times = [vec![], vec![], vec![]];
-    for i in 0..SAMPLES {
+    for i in 0..samples {
         // Each in turn goes first.
         for j in 0..3 {
             let k = (i + j) % 3;
@@ -199,9 +206,10 @@ pub fn time<T>(name: &str, goal: Option<f64>, inputs: &[T], mut runs: [Run<T>; 3
         median(times[1].clone()) / 1000.0,
         median(times[2].clone()) / 1000.0,
         ratio,
-        format!("{:.2}-{:.2}", spread[SAMPLES / 4], spread[SAMPLES - 1 - SAMPLES / 4]),
+        format!("{:.2}-{:.2}", spread[samples / 4], spread[samples - 1 - samples / 4]),
         median(ratios(2)),
     );
+    median(times[0].clone())
 }
 
 // The stack

@@ -179,12 +179,76 @@ pub fn paper() -> Table {
     }
 }
 
-/// The bucket of a row: the hash of crates/index/src/lib.rt.
-pub fn bucket(symbol: u16, args: &[u16]) -> u64 {
-    let mut h = u64::from(symbol);
-    for &a in args {
-        h = (h * 2654435769 + u64::from(a)) % 4294967296;
+// The hash of the index: crates/index/specs/Hash.antt
+
+/// The multiplier with which rows are indexed first, and the count of buckets for a large table.
+pub const MULTIPLIER: u64 = 2654435769;
+pub const BUCKETS: usize = 1408;
+
+/// A row's symbol and count of arguments, with which its hash begins.
+pub fn key(symbol: u16, count: usize) -> u64 {
+    u64::from(symbol) + count as u64 * 256
+}
+
+/// A hash with arguments added: four at a time, then two, then one.
+pub fn mix_all(by: u64, h: u64, args: &[u16]) -> u64 {
+    let two = |a: u16, b: u16| u64::from(a) + u64::from(b) * 65536;
+    let (x, rest) = match *args {
+        [] => return h,
+        [a, b, c, d, ref rest @ ..] => (two(a, b) + two(c, d) * 256, rest),
+        [a, b, ref rest @ ..] => (two(a, b), rest),
+        [a] => (u64::from(a), &[][..]),
+    };
+    mix_all(by, (h * by + x) % 4294967296, rest)
+}
+
+/// The bucket of a row, of so many.
+pub fn bucket(by: u64, size: usize, symbol: u16, args: &[u16]) -> usize {
+    let h = mix_all(by, key(symbol, args.len()), args);
+    (h * by % 4294967296 * size as u64 / 4294967296) as usize
+}
+
+/// The four arguments with which a hash h becomes v by the first multiplier. There is one such group for each h, and
+/// each of the four is below 256.
+pub fn last_four(h: u64, v: u64) -> [u16; 4] {
+    let [a, c, b, d] = (v.wrapping_sub(h * MULTIPLIER) as u32).to_le_bytes();
+    [a, b, c, d].map(u16::from)
+}
+
+/// The multiplier of a table's own, with which its rows are indexed where by the first one too many share a bucket:
+/// crates/table/src/lib.rt.
+fn own_multiplier(rows: &[u16]) -> u64 {
+    let digest = |h: u64, x: u64| {
+        let p = (h ^ x) % 4294967296 * 2654435769 ^ x / 4294967296 * 2246822519;
+        p ^ p / 4294967296
+    };
+    let fours = rows.chunks_exact(4);
+    let rest = fours.remainder();
+    let h = fours.map(|x| (0..4).map(|k| u64::from(x[k]) << (16 * k)).sum()).fold(0, digest);
+    2147483649 + rest.iter().map(|&x| u64::from(x)).fold(h, digest) % 536870911 * 2
+}
+
+/// How many rows of a large table the fullest bucket has.
+fn fullest(rows: &[u16], by: u64) -> usize {
+    let mut buckets = [0; BUCKETS];
+    let mut rest = rows;
+    while let [symbol, _, count, tail @ ..] = rest {
+        let (args, tail) = tail.split_at(usize::from(*count));
+        buckets[bucket(by, BUCKETS, *symbol, args)] += 1;
+        rest = tail;
     }
+    buckets.into_iter().max().unwrap()
+}
+
+/// Prints that of a table made for one bucket.
+pub fn print_fullest(name: &str, table: &Table) {
+    let [first, own] = [MULTIPLIER, own_multiplier(&table.rows)].map(|by| fullest(&table.rows, by));
+    println!("  {name}: the fullest bucket has {first} rows, by the table's own multiplier {own}");
+}
+
+/// The bucket of a row by the hash before, of 2,048.
+pub fn bucket_before(symbol: u16, args: &[u16]) -> u64 {
+    let h = args.iter().fold(u64::from(symbol), |h, &a| (h * 2654435769 + u64::from(a)) % 4294967296);
     h * 2654435769 % 4294967296 / 2097152
 }
 

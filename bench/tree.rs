@@ -11,7 +11,10 @@ use std::collections::hash_map::{Entry, RandomState};
 use std::collections::HashMap;
 use std::hash::{BuildHasher, BuildHasherDefault};
 use std::rc::Rc;
-use table::{bucket, faulty, library_check, logger, packed, paper, random_rows, Maker, Table, LIMIT};
+use table::{
+    bucket_before, faulty, key, last_four, library_check, logger, mix_all, packed, paper, print_fullest, random_rows,
+    Maker, Table, LIMIT, MULTIPLIER,
+};
 
 /// What both operations are timed on: a table, a number below its total, and the tree of the number.
 struct Pair {
@@ -415,19 +418,35 @@ fn single() -> Vec<(u16, u16, Vec<u16>)> {
     vec![(1, 1, vec![]), (1, 2, vec![1; 16]), (1, 3, vec![2; 16]), (1, 4, last)]
 }
 
-/// Made for the worst of numbering: 1,024 rows, of which 1,021 have the leaf's bucket, with the leaf the last to be
-/// looked at. The other 1,020 have 16 arguments and count 0.
-fn one_bucket(draw: &mut Draw) -> Table {
+/// The single tree's table with 1,020 rows more, that have 16 arguments and count 0.
+fn with_empty(draw: &mut Draw, args: fn(&mut Draw) -> Option<Vec<u16>>) -> Table {
     let mut rows = single();
     let mut maker = Maker::new(256);
     while maker.rows.len() < 1020 {
-        let args: Vec<u16> = (0..16).map(|_| draw.between(5, 254)).collect();
-        if bucket(1, &args) == bucket(1, &[]) {
+        if let Some(args) = args(draw) {
             maker.add(1, 255, args);
         }
     }
     rows.extend(maker.rows);
     Table { states: 256, rows: packed(&rows), accepting: vec![4] }
+}
+
+/// Made for the worst of numbering by the hash before: of 1,024 rows 1,021 have the leaf's bucket, with the leaf the
+/// last to be looked at.
+fn one_bucket_before(draw: &mut Draw) -> Table {
+    with_empty(draw, |draw| {
+        let args: Vec<u16> = (0..16).map(|_| draw.between(5, 254)).collect();
+        (bucket_before(1, &args) == bucket_before(1, &[])).then_some(args)
+    })
+}
+
+/// The same by the hash and its first multiplier: 1,021 rows have the leaf's hash.
+fn one_bucket(draw: &mut Draw) -> Table {
+    with_empty(draw, |draw| {
+        let first: Vec<u16> = (0..12).map(|_| draw.between(5, 254)).collect();
+        let last = last_four(mix_all(MULTIPLIER, key(1, 16), &first), key(1, 0));
+        last.iter().all(|a| (5..255).contains(a)).then(|| [&first[..], &last].concat())
+    })
 }
 
 /// Made for the worst of writing: 1,024 rows, with the leaf the last of 1,021 rows of its state. The other 1,020 count
@@ -555,8 +574,9 @@ fn main() {
         ("1,024 rows x 16, 34 entries", None, pairs(&mut draw, 8, 4, small)),
         ("1,024 rows x 16, random arguments", None, pairs(&mut draw, 8, 4, random_rows)),
         ("256 rows x 8, nested 256 deep", None, pairs(&mut draw, 8, 1, deep)),
-        ("1,021 of 1,024 rows in one bucket", None, pairs(&mut draw, 2, 1, one_bucket)),
+        ("one bucket of the hash before", None, pairs(&mut draw, 2, 1, one_bucket_before)),
         ("a leaf behind 1,020 empty rows", None, pairs(&mut draw, 1, 1, behind_empty)),
+        ("1,021 of 1,024 rows in one bucket", None, pairs(&mut draw, 2, 1, one_bucket)),
     ];
 
     for (name, _, pairs) in &cases {
@@ -575,6 +595,9 @@ fn main() {
         lengths.sort();
         let (least, middle, most) = (lengths[0], lengths[lengths.len() / 2], lengths[lengths.len() - 1]);
         println!("  {name}: trees of {least} to {most} entries, the middle one of {middle}");
+    }
+    for (name, _, pairs) in cases.iter().filter(|case| case.0.contains("one bucket")) {
+        pairs.iter().for_each(|pair| print_fullest(name, &pair.table));
     }
     compare_faulty(&mut draw, 50_000);
 
