@@ -62,33 +62,64 @@ pub fn packed(rows: &[(u16, u16, Vec<u16>)]) -> Vec<u16> {
         .collect()
 }
 
-/// A table under construction. It takes a row only if the table then passes the check.
+/// A table under construction. It takes a row only if the table then passes the check: its target counts no more than
+/// the limit and has no longer trees, or is in no accepted tree.
 pub struct Maker {
     states: usize,
     pub rows: Vec<(u16, u16, Vec<u16>)>,
     taken: HashSet<(u16, Vec<u16>)>,
     counts: Vec<u64>,
     longest: Vec<u64>,
+    unused: Vec<bool>,
 }
 
 impl Maker {
     pub fn new(states: usize) -> Maker {
-        Maker { states, rows: vec![], taken: HashSet::new(), counts: vec![0; states], longest: vec![0; states] }
+        Maker {
+            states,
+            rows: vec![],
+            taken: HashSet::new(),
+            counts: vec![0; states],
+            longest: vec![0; states],
+            unused: vec![false; states],
+        }
+    }
+
+    /// What a state counts, the highest u64 if it is more.
+    pub fn count(&self, q: u16) -> u64 {
+        self.counts[usize::from(q)]
     }
 
     /// Adds a row, unless it is there or would pass a limit. Targets come in ascending order.
     pub fn add(&mut self, symbol: u16, target: u16, args: Vec<u16>) -> bool {
-        assert!(args.len() <= 16 && args.iter().all(|&a| a < target) && usize::from(target) < self.states);
-        let q = usize::from(target);
-        let count = args.iter().map(|&a| self.counts[usize::from(a)]).fold(1, u64::saturating_mul);
-        let long = 2 + args.iter().map(|&a| self.longest[usize::from(a)]).sum::<u64>();
-        if self.counts[q].saturating_add(count) > LIMIT || (count > 0 && long > 4096) {
+        let (count, long) = self.counted(target, &args);
+        if self.count(target).saturating_add(count) > LIMIT || (count > 0 && long > 4096) {
             return false;
         }
+        assert!(args.iter().chain([&target]).all(|&q| !self.unused[usize::from(q)]));
+        self.take(symbol, target, args)
+    }
+
+    /// Adds a row, unless it is there, with a target that is kept out of accepted trees: it may pass the limits.
+    pub fn add_unused(&mut self, symbol: u16, target: u16, args: Vec<u16>) -> bool {
+        self.unused[usize::from(target)] = true;
+        self.take(symbol, target, args)
+    }
+
+    /// What a row counts, and the entries of its longest tree, the highest u64 if it is more.
+    fn counted(&self, target: u16, args: &[u16]) -> (u64, u64) {
+        assert!(args.len() <= 16 && args.iter().all(|&a| a < target) && usize::from(target) < self.states);
+        let count = args.iter().map(|&a| self.count(a)).fold(1, u64::saturating_mul);
+        (count, args.iter().map(|&a| self.longest[usize::from(a)]).fold(2, u64::saturating_add))
+    }
+
+    fn take(&mut self, symbol: u16, target: u16, args: Vec<u16>) -> bool {
         if !self.taken.insert((symbol, args.clone())) {
             return false;
         }
-        self.counts[q] += count;
+        let q = usize::from(target);
+        let (count, long) = self.counted(target, &args);
+        self.counts[q] = self.counts[q].saturating_add(count);
         if count > 0 {
             self.longest[q] = self.longest[q].max(long);
         }
@@ -106,7 +137,7 @@ impl Maker {
     /// The table, its rows in a random order, with some of its states accepting.
     pub fn table(mut self, draw: &mut Draw) -> Table {
         draw.shuffle(&mut self.rows);
-        let mut accepting: Vec<u16> = (0..self.states as u16).collect();
+        let mut accepting: Vec<u16> = (0..self.states as u16).filter(|&q| !self.unused[usize::from(q)]).collect();
         draw.shuffle(&mut accepting);
         let mut total = 0;
         accepting.retain(|&q| {
@@ -136,8 +167,52 @@ pub fn random_rows(draw: &mut Draw) -> Table {
     maker.table(draw)
 }
 
+/// 1,024 rows over 256 states, of 16 arguments but for 32 leaves, half of them unused: the lower half is as in
+/// `random_rows`, and the rows of the upper half have any lower states for arguments, and soon count far too much.
+pub fn half_unused(draw: &mut Draw) -> Table {
+    let mut maker = Maker::new(256);
+    maker.leaves(32);
+    for i in 0..480 {
+        let target = 32 + i * 112 / 480;
+        while !maker.add(
+            draw.between(1, 255),
+            target as u16,
+            (0..16)
+                .map(|_| if draw.below(16) == 0 { draw.between(0, target - 1) } else { draw.between(0, 31) })
+                .collect(),
+        ) {}
+    }
+    for i in 0..512 {
+        let target = 144 + i * 112 / 512;
+        while !maker.add_unused(
+            draw.between(1, 255),
+            target as u16,
+            (0..16).map(|_| draw.between(0, target - 1)).collect(),
+        ) {}
+    }
+    maker.table(draw)
+}
+
 /// A table as a logger has it: 40 rows, 12 symbols, each with its own count of arguments, 10 to 20 states.
 pub fn logger(draw: &mut Draw) -> Table {
+    logger_maker(draw, 0).0.table(draw)
+}
+
+/// The same with one state more, which is unfinished: far too big, and in no accepted tree.
+pub fn unfinished(draw: &mut Draw) -> Table {
+    loop {
+        let (mut maker, last) = logger_maker(draw, 1);
+        let most = (0..last).max_by_key(|&q| maker.count(q)).unwrap();
+        // 16 arguments that count 16 and more: 2 to the 64th and more.
+        if maker.count(most) >= 16 {
+            assert!(maker.add_unused(1, last, vec![most; 16]));
+            return maker.table(draw);
+        }
+    }
+}
+
+/// A logger's table under construction, and the number of its states; so many more follow that are empty.
+fn logger_maker(draw: &mut Draw, more: usize) -> (Maker, u16) {
     const ARGUMENTS: [usize; 12] = [0, 0, 0, 0, 0, 1, 1, 2, 2, 2, 3, 4];
     'anew: loop {
         let states = usize::from(draw.between(10, 20));
@@ -146,7 +221,7 @@ pub fn logger(draw: &mut Draw) -> Table {
             targets.push(draw.between(1, states - 1));
         }
         targets.sort();
-        let mut maker = Maker::new(states);
+        let mut maker = Maker::new(states + more);
         for target in targets {
             let mut tries = 0;
             loop {
@@ -163,7 +238,7 @@ pub fn logger(draw: &mut Draw) -> Table {
                 }
             }
         }
-        return maker.table(draw);
+        return (maker, states as u16);
     }
 }
 
@@ -254,7 +329,7 @@ pub fn bucket_before(symbol: u16, args: &[u16]) -> u64 {
 
 /// A small table of which any answer is likely, also by a single changed entry.
 pub fn faulty(draw: &mut Draw) -> Table {
-    let mut table = match draw.below(8) {
+    let mut table = match draw.below(9) {
         0 => paper(),
         1 => {
             // Each state has a single row over the one before: counts 1, or squares, or 16th powers.
@@ -264,7 +339,9 @@ pub fn faulty(draw: &mut Draw) -> Table {
                 rows.extend([1, q, power as u16]);
                 rows.extend(vec![q - 1; power]);
             }
-            Table { states: u64::from(states), rows, accepting: vec![states - 1] }
+            // With another one than the last listed, those above it are unused.
+            let listed = if draw.below(2) == 0 { states - 1 } else { draw.between(0, usize::from(states - 1)) };
+            Table { states: u64::from(states), rows, accepting: vec![listed] }
         }
         2 => {
             // Counts 2, 4, 16, 256, 65,536, 2 to the 31st twice.
@@ -307,6 +384,7 @@ pub fn faulty(draw: &mut Draw) -> Table {
             ];
             Table { states: 12, rows, accepting: [vec![11], vec![0; draw.below(2)]].concat() }
         }
+        6 => unfinished(draw),
         _ => logger(draw),
     };
     for _ in 0..draw.below(3) {

@@ -12,8 +12,8 @@ use std::collections::HashMap;
 use std::hash::{BuildHasher, BuildHasherDefault};
 use std::rc::Rc;
 use table::{
-    bucket_before, faulty, key, last_four, library_check, logger, mix_all, packed, paper, print_fullest, random_rows,
-    Maker, Table, LIMIT, MULTIPLIER,
+    bucket_before, faulty, half_unused, key, last_four, library_check, logger, mix_all, packed, paper, print_fullest,
+    random_rows, unfinished, Maker, Table, LIMIT, MULTIPLIER,
 };
 
 /// What both operations are timed on: a table, a number below its total, and the tree of the number.
@@ -114,6 +114,8 @@ struct Checked<'a, S> {
     starts: Vec<usize>,
     counts: Vec<u64>,
     longest: Vec<u64>,
+    /// The states in which values are formed: the used ones, or all where no state is above a limit.
+    valued: [bool; 256],
 }
 
 fn checked<S: BuildHasher + Default>(table: &Table) -> Result<Checked<'_, S>, Refusal> {
@@ -182,6 +184,7 @@ fn checked<S: BuildHasher + Default>(table: &Table) -> Result<Checked<'_, S>, Re
 
     let mut counts = vec![0u64; states];
     let mut longest = vec![0u64; states];
+    let mut beyond = false;
     for q in 0..states {
         let mut count = 0u64;
         let mut long = 0;
@@ -192,24 +195,43 @@ fn checked<S: BuildHasher + Default>(table: &Table) -> Result<Checked<'_, S>, Re
             let product = row.args.iter().map(|&a| counts[usize::from(a)]).fold(1, u64::saturating_mul);
             count = count.saturating_add(product);
             if product > 0 {
-                long = long.max(2 + row.args.iter().map(|&a| longest[usize::from(a)]).sum::<u64>());
+                long = long.max(row.args.iter().map(|&a| longest[usize::from(a)]).fold(2, u64::saturating_add));
             }
         }
-        if count > LIMIT {
-            return refuse(9, q);
-        }
-        if long > 4096 {
-            return refuse(10, q);
-        }
+        beyond |= count > LIMIT || long > 4096;
         counts[q] = count;
         longest[q] = long;
+    }
+
+    // Only used states are held to the limits, as in `check` of bench/check.rs.
+    let mut valued = [true; 256];
+    if beyond {
+        valued = listed;
+        for q in (0..states).rev() {
+            if valued[q] {
+                for &place in &by_target[starts[q]..starts[q + 1]] {
+                    let args = rows[place].args;
+                    if args.iter().all(|&a| counts[usize::from(a)] > 0) {
+                        args.iter().for_each(|&a| valued[usize::from(a)] = true);
+                    }
+                }
+            }
+        }
+        for q in (0..states).filter(|&q| valued[q]) {
+            if counts[q] > LIMIT {
+                return refuse(9, q);
+            }
+            if longest[q] > 4096 {
+                return refuse(10, q);
+            }
+        }
     }
 
     let total = accepting.iter().map(|&q| counts[usize::from(q)]).sum();
     if total > LIMIT {
         return refuse(11, 0);
     }
-    Ok(Checked { total, rows, row: seen, by_target, starts, counts, longest })
+    Ok(Checked { total, rows, row: seen, by_target, starts, counts, longest, valued })
 }
 
 fn number<S: BuildHasher + Default>(table: &Table, tree: &[u16]) -> Answer {
@@ -239,14 +261,17 @@ fn number<S: BuildHasher + Default>(table: &Table, tree: &[u16]) -> Answer {
             continue;
         };
         let row = &checked.rows[row];
-        let value = states[begin..]
-            .iter()
-            .zip(&values[begin..])
-            .fold(0, |value, (&q, child)| value * checked.counts[usize::from(q)] + child);
+        // No value is formed in an unused state. No tree over one is accepted, so that what stands for it is of no account.
+        let value = if checked.valued[usize::from(row.target)] {
+            let children = states[begin..].iter().zip(&values[begin..]);
+            row.before + children.fold(0, |value, (&q, child)| value * checked.counts[usize::from(q)] + child)
+        } else {
+            0
+        };
         states.truncate(begin);
         values.truncate(begin);
         states.push(row.target);
-        values.push(row.before + value);
+        values.push(value);
     }
     if tree.is_empty() || !opens.is_empty() {
         return refuse(13, tree.len());
@@ -577,6 +602,8 @@ fn main() {
         ("one bucket of the hash before", None, pairs(&mut draw, 2, 1, one_bucket_before)),
         ("a leaf behind 1,020 empty rows", None, pairs(&mut draw, 1, 1, behind_empty)),
         ("1,021 of 1,024 rows in one bucket", None, pairs(&mut draw, 2, 1, one_bucket)),
+        ("40 rows and one unfinished state", goal, pairs(&mut draw, 64, 4, unfinished)),
+        ("1,024 rows x 16, half unused", None, pairs(&mut draw, 8, 4, half_unused)),
     ];
 
     for (name, _, pairs) in &cases {

@@ -4,6 +4,7 @@ A case is the count of states, the rows and the accepting list. edges() gives ca
 by hand; drawn(draw, count) gives so many drawn cases.
 """
 
+import copy
 import random
 
 LIMIT = 4294967295
@@ -289,6 +290,8 @@ def edges():
     a = t.counting(65536)
     empty, top = t.state(), t.state()
     t.row(1, top, a, a)
+    yield t.case(), 'total 0'
+    t.accepting = [top]
     yield t.case(), f'refused 9 {top}'
     for arguments in ([a, a, empty], [empty, a, a], [a, empty, a], [a] * 15 + [empty], [empty, empty]):
         t.rows[-1] = [1, top, len(arguments), *arguments]
@@ -353,8 +356,10 @@ def edges():
     t.accepting = [d, c, b, a]
     yield t.case(), 'total 4'
     t.row(5, t.state(), *[c] * 7, *[b] * 8, a)
-    yield t.case(), 'refused 10 4'
+    yield t.case(), 'total 4'
     t.accepting = []
+    yield t.case(), 'total 0'
+    t.accepting = [4]
     yield t.case(), 'refused 10 4'
     # 4,098 by one node above 4,096; 65,538 entries, 2 where 16 bits are kept
     t.rows[-1] = [5, 4, 1, d]
@@ -387,9 +392,10 @@ def edges():
     half = t.counting(2 ** 31)
     large = t.state()
     t.row(5, large, half, half)
+    t.accepting = [large, long]
     yield t.case(), f'refused 10 {long}'
-    t.accepting = [half, half]
-    yield t.case(), 'refused 7 1'
+    t.accepting = [long, half, half]
+    yield t.case(), 'refused 7 2'
     t = Table()
     half = t.counting(2 ** 31)
     large = t.state()
@@ -397,14 +403,361 @@ def edges():
     a, b, c, d = t.lengths()
     long = t.state()
     t.row(5, long, d)
+    t.accepting = [long, large]
     yield t.case(), f'refused 9 {large}'
     t.rows = [row for row in t.rows if row[1] != large]
     t.row(5, long, half, half)
     yield t.case(), f'refused 9 {long}'
     t.rows[-1] = [5, long, 1, half]
     t.row(6, t.state(), half)
-    t.accepting = [half, t.states - 1]
+    t.accepting = [half, t.states - 1, long]
     yield t.case(), f'refused 10 {long}'
+
+    yield from used_edges()
+
+
+# 9 and 10 of used states only (document 02, request (c))
+
+def beyond(t, kind):
+    """A state above a limit over lower ones that are within it: it counts 2 ** 62, or has a tree of 4,098 entries, or both."""
+    half = t.counting(2 ** 31) if kind != 'long' else None
+    longest = t.lengths()[3] if kind != 'big' else None
+    state = t.state()
+    if half is not None:
+        t.row(1, state, half, half)
+    if longest is not None:
+        t.row(2, state, longest)
+    return state
+
+
+NUMBERS = {'big': 9, 'long': 10, 'both': 9}
+
+
+def padded(t, states, entries):
+    """The table with at least so many states and more than so many row entries: those of a state that is in no accepted tree."""
+    pad = t.state()
+    t.states = max(t.states, states)
+    i = 0
+    while len(t.entries()) <= entries:
+        t.row(100 + i % 150, pad, *[pad - 1] * (1 + i // 150))
+        i += 1
+    return t
+
+
+def one_beyond(kind):
+    """A single state above a limit, with a leaf beside it: used in each way, and unused in each way."""
+    number = NUMBERS[kind]
+
+    def made():
+        t = Table()
+        leaf, empty = t.state(), t.state()
+        t.row(t.leaf_symbol(), leaf)
+        state = beyond(t, kind)
+        return t, leaf, empty, state, t.state()
+
+    # listed, and not listed
+    t, leaf, empty, state, top = made()
+    for accepting, answer in (([], 'total 0'), ([leaf], 'total 1'), ([empty], 'total 0'), ([empty, leaf, top], 'total 1'),
+                              ([state], f'refused {number} {state}'), ([leaf, state], f'refused {number} {state}'),
+                              ([state, leaf, empty, top], f'refused {number} {state}')):
+        t.accepting = accepting
+        yield t, answer
+    # as an argument, of a row that counts above 0 or 0, of a listed state or not
+    for arguments, used in (([state], True), ([leaf, state], True), ([state, leaf, state], True), ([leaf] * 15 + [state], True),
+                            ([state, empty], False), ([empty, state], False), ([leaf, state, empty, leaf], False), ([state] * 15 + [empty], False)):
+        t, leaf, empty, state, top = made()
+        t.row(3, top, *arguments)
+        for accepting in ([top], [leaf, top], [top, empty]):
+            t.accepting = accepting
+            yield t, f'refused {number} {state}' if used else f'total {accepting.count(leaf)}'
+        t.accepting = [leaf, empty]
+        yield t, 'total 1'
+        # the same beside a row that counts, in front of it and behind it
+        t.row(4, top, leaf, leaf)
+        for _ in range(2):
+            t.accepting = [top]
+            yield t, f'refused {number} {state}' if used else 'total 1'
+            t.accepting = [leaf]
+            yield t, 'total 1'
+            t.rows[-1], t.rows[-2] = t.rows[-2], t.rows[-1]
+    # far below: through three states, one of which counts 0
+    for hole in (None, 0, 1, 2):
+        t, leaf, empty, state, top = made()
+        states = [state, top, t.state(), t.state()]
+        for i in range(3):
+            t.row(6, states[i + 1], states[i], *[empty] * (hole == i), leaf)
+        t.accepting = [states[3]]
+        yield t, f'refused {number} {state}' if hole is None else 'total 0'
+        t.accepting = [leaf, states[2]]
+        yield t, f'refused {number} {state}' if hole in (None, 2) else 'total 1'
+        t.accepting = [states[2], states[3], states[1], leaf]
+        yield t, f'refused {number} {state}' if hole != 0 else 'total 1'
+
+
+def two_beyond():
+    """Two states above limits, apart: each of them used or not. The lower used one decides."""
+    for low, high in (('big', 'big'), ('big', 'long'), ('long', 'big'), ('long', 'long'), ('both', 'long'), ('long', 'both')):
+        t = Table()
+        first = beyond(t, low)
+        second = beyond(t, high)
+        leaf = t.state()
+        t.row(t.leaf_symbol(), leaf)
+        over = t.state()
+        t.row(7, over, leaf, second)
+        for accepting, answer in (([leaf], 'total 1'), ([first], (low, first)), ([second], (high, second)), ([second, first], (low, first)),
+                                  ([first, second], (low, first)), ([over], (high, second)), ([over, first], (low, first)), ([leaf, over], (high, second))):
+            t.accepting = accepting
+            yield t, answer if isinstance(answer, str) else f'refused {NUMBERS[answer[0]]} {answer[1]}'
+        # the higher one over the lower one, and over the lower one and nothing
+        t.row(8, second, first)
+        t.accepting = [second]
+        yield t, f'refused {NUMBERS[low]} {first}'
+        empty = t.state()
+        t.row(9, t.state(), second, empty)
+        t.accepting = [leaf, t.states - 1, empty]
+        yield t, 'total 1'
+
+
+def lowest_above(chains, otherwise):
+    """Of states that `counting` has made, and what they count: the lowest state above the limit in their chains. Each state of a
+    chain has one binary digit more than the one before it, and the first with 33 is above the limit.
+    """
+    return min((state - (n.bit_length() - 33) for state, n in chains if n > LIMIT), default=otherwise)
+
+
+def product_edges():
+    """The 64-bit edges of products and sums: 2 ** 64 - 1 and 2 ** 64, which is 0 where 64 bits are kept."""
+    for counts in ([2 ** 32 - 1, 2 ** 32 + 1], [2 ** 32, 2 ** 32], [2 ** 32 - 1, 2 ** 32 - 1], [2 ** 31, 2 ** 33], [2 ** 32 - 1, 2 ** 32], [2 ** 64 - 1, 1],
+                   [2 ** 64, 2 ** 64]):
+        t = Table()
+        a, b = (t.counting(n) for n in counts)
+        empty, leaf, top = t.state(), t.state(), t.state()
+        t.row(t.leaf_symbol(), leaf)
+        first = lowest_above(zip((a, b), counts), top)
+        for arguments in ([a, b], [b, leaf, a]):
+            t.row(1, top, *arguments)
+            t.accepting = [leaf]
+            yield t, 'total 1'
+            t.accepting = [leaf, top]
+            yield t, f'refused 9 {first}'
+            t.rows.pop()
+        for arguments in ([a, b, empty], [b, empty, a], [empty, a, b], [b, a] + [b] * 13 + [empty]):
+            t.row(1, top, *arguments)
+            t.accepting = [leaf, top]
+            yield t, 'total 1'
+            t.rows.pop()
+    # counts within the limit whose product is 2 ** 64, or a little less and more; then rows over such a state
+    for counts in ([2 ** 22, 2 ** 21, 2 ** 21], [2 ** 16] * 4, [2 ** 32 - 1, 2 ** 31, 2], [2 ** 32 - 1] * 3, [2 ** 31] * 16, [2 ** 4] * 16, [2 ** 8] * 8):
+        t = Table()
+        kept = {n: t.counting(n) for n in sorted({*counts})}
+        empty, leaf, big, top = t.state(), t.state(), t.state(), t.state()
+        t.row(t.leaf_symbol(), leaf)
+        t.row(1, big, *map(kept.get, counts))
+        t.accepting = [leaf]
+        yield t, 'total 1'
+        t.accepting = [big]
+        yield t, f'refused 9 {big}'
+        for arguments, answer in (([big], None), ([big, big], None), ([big] * 16, None), ([leaf, big, big, leaf], None), ([big, empty], 'total 1'),
+                                  ([big, big, empty], 'total 1'), ([big] * 15 + [empty], 'total 1'), ([empty] + [big] * 15, 'total 1')):
+            t.row(2, top, *arguments)
+            t.accepting = [top, leaf]
+            yield t, answer or f'refused 9 {big}'
+            t.rows.pop()
+    # sums of rows: 2 ** 64 - 1, 2 ** 64, and 2 ** 64 and more in between; then a row over such a state
+    for counts in ([2 ** 63, 2 ** 63 - 1], [2 ** 63, 2 ** 63], [2 ** 64 - 1, 1], [2 ** 64, 2 ** 64], [2 ** 64 - 1, 2 ** 64 - 1, 2], [2 ** 62] * 4):
+        t = Table()
+        kept = {n: t.counting(n) for n in sorted({*counts})}
+        leaf, big, top = t.state(), t.state(), t.state()
+        t.row(t.leaf_symbol(), leaf)
+        for i, n in enumerate(counts):
+            t.row(1 + i, big, kept[n])
+        t.row(9, top, big, big)
+        t.accepting = [leaf]
+        yield t, 'total 1'
+        t.accepting = [top, leaf]
+        yield t, f'refused 9 {lowest_above(((state, n) for n, state in kept.items()), big)}'
+
+
+def chain_edges():
+    """Chains of states that count more and more, unused, and used from some place on, beside the paper's table."""
+    # state 5 counts 16, state 6 + k counts 16 ** (2 * k + 3): 16 ** 255 in state 132
+    t = Table(5, PAPER, [2, 4])
+    sixteen = t.state()
+    for symbol in range(10, 26):
+        t.row(symbol, sixteen)
+    for k in range(127):
+        below, state = t.states - 1, t.state()
+        t.row(9, state, below, sixteen, sixteen)
+    assert t.states == 133
+    yield t, 'total 12'
+    # 16 ** 7 is 2 ** 28, 16 ** 9 is 2 ** 36: state 8 passes, state 9 does not
+    for accepting, answer in (([132], 'refused 9 9'), ([2, 9], 'refused 9 9'), ([2, 4, 8], f'total {12 + 16 ** 7}'),
+                              ([7, 2, 4], f'total {12 + 16 ** 5}'), ([7, 6, 5], f'total {16 ** 5 + 16 ** 3 + 16}')):
+        t.accepting = accepting
+        yield t, answer
+    # over it, states of 16 arguments each: 16 ** 255 to the 16th, and so on
+    for _ in range(123):
+        below, state = t.states - 1, t.state()
+        t.row(9, state, *[below] * 16)
+    assert t.states == 256
+    for accepting, answer in (([2, 4], 'total 12'), ([255], 'refused 9 9'), ([8, 2], f'total {16 ** 7 + 2}')):
+        t.accepting = accepting
+        yield t, answer
+
+    # states that are each over 16 of the one below: one tree each, with a longer and longer list; with two leaves, counts to the 16th
+    for leaves, answers in ((1, {0: 'total 1', 2: 'total 1', 3: 'refused 10 3'}), (2, {0: 'total 2', 1: 'total 65536', 2: 'refused 9 2'})):
+        t = Table(256, [[symbol, 0, 0] for symbol in range(1, 1 + leaves)] + [[9, q, 16] + [q - 1] * 16 for q in range(1, 256)])
+        fault = answers[4 - leaves]
+        for accepting, answer in (([0], answers[0]), ([0, 255], fault)):
+            t.accepting = accepting
+            yield t, answer
+        # the same of 24 states
+        t.states = 24
+        t.rows = [row for row in t.rows if row[1] < 24]
+        t.accepting = []
+        yield t, 'total 0'
+        for listed, answer in answers.items():
+            t.accepting = [listed]
+            yield t, answer
+        # rows from the highest state down
+        t.rows.reverse()
+        t.accepting = [23]
+        yield t, fault
+        t.accepting = [0]
+        yield t, answers[0]
+        # nothing in the middle: all above it counts 0, and uses nothing
+        t.rows = [row for row in t.rows if row[1] != 12]
+        t.accepting = [0, 23]
+        yield t, answers[0]
+        t.accepting = [0, 23, 11]
+        yield t, fault
+
+    # doubling: state q counts 2 ** (q + 1). Used from 31 up is a fault, at 31
+    t = Table(80, [[1, 0, 0], [2, 0, 0]] + [[symbol, q, 1, q - 1] for q in range(1, 80) for symbol in (1, 2)])
+    for accepting, answer in (([], 'total 0'), ([30], f'total {2 ** 31}'), ([31], 'refused 9 31'), ([63], 'refused 9 31'), ([64], 'refused 9 31'),
+                              ([79], 'refused 9 31'), (list(range(31)), f'total {2 ** 32 - 2}')):
+        t.accepting = accepting
+        yield t, answer
+    # 11 where other states are above the limits, unused; 9 comes before it
+    t.row(3, 30, 0)
+    t.row(3, 29, 1)   # state 29 counts 2 ** 30 + 4, state 30 twice that and 2
+    t.accepting = [30, 29, 28, 27, 0]
+    yield t, f'total {2 ** 31 + 10 + 2 ** 30 + 4 + 2 ** 29 + 2 ** 28 + 2}'
+    t.accepting = list(range(31))
+    yield t, 'refused 11 0'
+    t.accepting = list(range(31)) + [79]
+    yield t, 'refused 9 31'
+
+
+def many_used_edges():
+    """Tables of a thousand rows: of one target, and of 16 arguments each."""
+    # 255 leaves of states 0 to 254, and 769 rows of state 255, each over two of those: every state is used, or no other
+    leaves = [[q + 1, q, 0] for q in range(255)]
+    rows = [[1 + i % 250, 255, 2, i % 255, i // 255] for i in range(769)]
+    t = Table(256, leaves + rows, [255])
+    yield t, 'total 769'
+    t.accepting = [7, 200]
+    yield t, 'total 2'
+
+    # state 255 has a thousand rows: some count 0, and the last alone names the state beyond a limit
+    for kind in ('big', 'long'):
+        t = Table()
+        leaf, empty = t.state(), t.state()
+        t.row(t.leaf_symbol(), leaf)
+        state = beyond(t, kind)
+        t.states = 256
+        while len(t.rows) < 1023:
+            i = len(t.rows)
+            t.row(20 + i % 200, 255, *[leaf] * (1 + i // 200), *[empty] * (i % 3 == 0))
+        counting = sum(row[1] == 255 and empty not in row[3:] for row in t.rows)
+        t.row(19, 255, state)
+        t.accepting = [255, leaf]
+        yield t, f'refused {NUMBERS[kind]} {state}'
+    t.rows[-1] = [19, 255, 2, state, empty]
+    yield t, f'total {counting + 1}'
+
+    # state 255 is above the limit by its first row already; a lower state is used by its last row alone
+    for kind in ('big', 'long'):
+        t = Table()
+        state = beyond(t, kind)
+        most = t.counting(LIMIT)
+        leaf = t.state()
+        t.row(t.leaf_symbol(), leaf)
+        t.states = 256
+        t.row(19, 255, most, most)
+        while len(t.rows) < 1023:
+            i = len(t.rows)
+            t.row(20 + i % 200, 255, most, *[leaf] * (1 + i // 200))
+        t.row(19, 255, state)
+        t.accepting = [255]
+        yield t, f'refused {NUMBERS[kind]} {state}'
+    t.rows.pop()
+    yield t, 'refused 9 255'
+
+    # 1,024 rows, 992 of them with 16 arguments. States 0 to 31 have a leaf each; a row over them counts 1
+    draw = Draw(7)
+
+    def over_leaves():
+        return [draw.below(32) for _ in range(16)]
+
+    def with_rows(targets):
+        t, seen = Table(256, [[q + 1, q, 0] for q in range(32)]), set()
+        for target, arguments in targets:
+            row = arguments()
+            while tuple(row) in seen:
+                row = arguments()
+            seen.add(tuple(row))
+            t.row(100, target, *row)
+        return t
+
+    # all used: states 240 to 254 have the more rows, states 32 to 239 one each, and state 255 is over 16 of them in each row
+    named = draw.shuffled(range(32, 240))
+    top = [[240 + k] + (named[15 * k:15 * k + 15] + named[:15])[:15] for k in range(15)]
+    targets = [(q, over_leaves) for q in range(32, 240)] + [(240 + i % 15, over_leaves) for i in range(992 - 208 - 15)]
+    targets += [(255, lambda row=row: row) for row in top]
+    t = with_rows(targets)
+    assert len(t.rows) == 1024 and {q for row in t.rows if row[1] == 255 for q in row[3:]} == set(range(32, 255))
+    t.accepting = [255]
+    yield t, f'total {992 - 208 - 15}'
+
+    # half unused: the rows of states 144 to 255 are over any lower states, most of them over such too, and count far too much
+    targets = [(32 + i % 112, over_leaves) for i in range(496)]
+    for i in range(496):
+        target = 144 + i % 112
+        targets.append((target, lambda target=target: [draw.between(32, target - 1) for _ in range(16)]))
+    t = with_rows(targets)
+    t.rows = draw.shuffled(t.rows)
+    t.accepting = draw.shuffled(range(144))
+    yield t, 'total 528'
+    # used after all: state 144 is over 16 states that count 4 and 5, in each of its rows
+    t.accepting = [32, 144]
+    yield t, 'refused 9 144'
+
+
+def used_edges():
+    # 1 to 7 hold of all rows and entries, used or not: state 5 counts 100, state 6 counts 100 ** 16
+    rows = PAPER + [[3, 5, 2, 4, 4], [3, 6, 16] + [5] * 16]
+    yield Table(7, rows, [2, 4]).case(), 'total 12'
+    yield Table(257, rows, [2, 4]).case(), 'refused 1 0'
+    for row, number in (([3], 2), ([3, 6, 16] + [4] * 15, 2), ([3, 6, 17] + [4] * 17, 3), ([3, 7, 0], 4), ([256, 6, 1, 5], 4), ([3, 6, 1, 7], 4),
+                        ([3, 6, 1, 6], 5), ([3, 5, 1, 6], 5), ([3, 6, 2, 4, 4], 6), ([3, 6, 16] + [5] * 16, 6), ([1, 6, 2, 2, 2], 6)):
+        yield (7, flat(rows) + row, [2, 4]), f'refused {number} 11'
+    yield Table(7, rows, [2, 4, 2]).case(), 'refused 7 2'
+    yield Table(7, rows, [2, 4, 7]).case(), 'refused 7 2'
+    yield Table(7, rows, [6, 6]).case(), 'refused 7 1'
+
+    for kind in NUMBERS:
+        for t, answer in one_beyond(kind):
+            yield t.case(), answer
+    # in tables of a middle and a large size too
+    for states, entries, part in ((66, 300, 6), (70, 1200, 40)):
+        for kind in NUMBERS:
+            for n, (t, answer) in enumerate(one_beyond(kind)):
+                if n % part == 4:
+                    yield padded(copy.deepcopy(t), states, entries).case(), answer
+    for made in (two_beyond, product_edges, chain_edges, many_used_edges):
+        for t, answer in made():
+            yield t.case(), answer
 
 
 # Drawn tables
@@ -440,21 +793,57 @@ def any_sound(draw):
     return sound(draw, draw.between(20, 256), draw.between(20, 60), 2, 9)
 
 
+def renumbered(row, states):
+    return [row[0], states[row[1]], row[2], *(states[argument] for argument in row[3:])]
+
+
+def spread(draw, t, count):
+    """Puts so many more states among those of t, without rows. Gives their numbers."""
+    places = sorted(draw.shuffled(range(t.states + count))[:count])
+    kept = [state for state in range(t.states + count) if state not in places]
+    t.rows = [renumbered(row, kept) for row in t.rows]
+    t.states += count
+    t.accepting = [kept[state] for state in t.accepting]
+    return places
+
+
 def merged(draw, t, chain, accepted):
     """Puts the states and rows of a sound table without leaves in common among those of t, in any order."""
-    places = sorted(draw.shuffled(range(t.states + chain.states))[:chain.states])
-    kept = [state for state in range(t.states + chain.states) if state not in places]
-
-    def renumber(row, states):
-        return [row[0], states[row[1]], row[2], *(states[argument] for argument in row[3:])]
-
-    t.rows = [renumber(row, kept) for row in t.rows]
+    places = spread(draw, t, chain.states)
     for row in chain.rows:
-        t.rows.insert(draw.between(0, len(t.rows)), renumber(row, places))
-    t.states += chain.states
-    t.accepting = [kept[state] for state in t.accepting]
+        t.rows.insert(draw.between(0, len(t.rows)), renumbered(row, places))
     for state in accepted:
         t.accepting.insert(draw.between(0, len(t.accepting)), places[state])
+
+
+def half_drawn(draw, t):
+    """Puts states into a sound table that are in no accepted tree, and so change no number: their rows are over any lower states,
+    and most have many arguments, so that they soon count far too much. Rows that count 0 name some of them.
+    """
+    new = spread(draw, t, draw.between(1, 7))
+    seen = {(row[0], *row[3:]) for row in t.rows}
+
+    def put(target, arguments):
+        for symbol in draw.shuffled([*{row[0] for row in t.rows}, draw.between(1, 255), draw.between(1, 255)]):
+            if (symbol, *arguments) not in seen:
+                seen.add((symbol, *arguments))
+                t.rows.insert(draw.between(0, len(t.rows)), [symbol, target, len(arguments), *arguments])
+                return
+
+    for target in new:
+        lower = list(range(target))
+        likely = [state for state in new if state < target][-2:] + lower[-1:]
+        for _ in range(draw.between(1, 3)):
+            count = draw.pick([1, 2, 2, 3, 8, 16, 16]) if lower else 0
+            base = draw.pick(likely or lower) if lower else None
+            put(target, [base if draw.chance(0.7) else draw.pick(lower) for _ in range(count)])
+    filled = {row[1] for row in t.rows}
+    empty = [state for state in range(t.states) if state not in filled]
+    for target in draw.shuffled(filled)[:2]:
+        of_none = [state for state in empty if state < target]
+        named = [state for state in new if state < target]
+        if of_none and named:
+            put(target, draw.shuffled([draw.pick(of_none)] + [draw.pick(named) for _ in range(draw.between(1, 15))]))
 
 
 def squares(draw, t):
@@ -530,11 +919,29 @@ def fault_7(draw, t, i):
     t.accepting.insert(draw.between(0, len(t.accepting)), min(65535, entry))
 
 
+def user(draw, chain):
+    """The states to be listed, so that the last state of a chain is used: itself, or a state over it. Now and then it is not, for
+    nothing lists it, or only a row that counts 0 names it.
+    """
+    last = chain.states - 1
+    kind = draw.below(8)
+    if kind < 4:
+        return [last]
+    if kind < 6:
+        chain.row(draw.between(1, 255), chain.state(), *draw.shuffled([last] + [0] * draw.between(0, 3)))
+        return draw.pick([[last + 1], [last, last + 1]])
+    if kind == 6:
+        empty, top = chain.state(), chain.state()
+        chain.row(draw.between(1, 255), top, *draw.shuffled([last, empty] + [0] * draw.between(0, 3)))
+        return draw.pick([[top], [top, empty], [0, top]])
+    return draw.pick([[], [0]])
+
+
 def fault_9(draw, t, i):
     chain = squares(draw, t)
     arguments = draw.pick([[4, 4], [3, 4, 3], [4, 4, 4, 4], [4, 2, 4], [1] * 16, [3, 3, 3, 2, 1, 1]])
     chain.row(draw.between(1, 255), chain.state(), *arguments)
-    merged(draw, t, chain, [])
+    merged(draw, t, chain, user(draw, chain))
 
 
 def fault_10(draw, t, i):
@@ -545,7 +952,7 @@ def fault_10(draw, t, i):
     chain.row(draw.between(1, 255), 2, *[1] * 16)
     arguments = draw.pick([[2] * 8, [2] * 7 + [1] * 8 + [0], [2] * 16])
     chain.row(draw.between(1, 255), chain.state(), *draw.shuffled(arguments))
-    merged(draw, t, chain, [])
+    merged(draw, t, chain, user(draw, chain))
 
 
 def fault_11(draw, t, i):
@@ -567,6 +974,8 @@ def faulty(draw, kinds, same_row):
     t = any_sound(draw)
     while len(t.rows) < 3:
         t = any_sound(draw)
+    if draw.chance(0.3):
+        half_drawn(draw, t)
     for kind in IN_ORDER[:3]:
         if kind in kinds:
             FAULTS[kind](draw, t, 0)
@@ -608,4 +1017,6 @@ def drawn(draw, count):
             t = faulty(draw, pairs[n // 8 % len(pairs)], n // 8 // len(pairs) % 2 == 0)
         else:
             t = any_sound(draw)
+            if draw.chance(0.2):
+                half_drawn(draw, t)
         yield t.case()

@@ -6,7 +6,7 @@ numbers of so many small tables, with answers from the trees listed one by one; 
 many larger tables.
 """
 
-from table_cases import LIMIT, PAPER, Table, any_sound, edges as table_edges, flat, many_rows, sound
+from table_cases import LIMIT, PAPER, Table, any_sound, edges as table_edges, flat, half_drawn, many_rows, sound
 from term_cases import NO_TREES, edited_tree, room, some_room
 from treenum_reference import Counts, Row, all_trees, check, list_of, refused, refused_place, trees_in_order, whole_rows, write
 
@@ -278,6 +278,130 @@ def many_edges():
     yield number(table, node(7, *([1 + int(bit), 0] for bit in format(1022, '016b'))), 'refused 14 33')
 
 
+def unused_edges():
+    """Trees through states that are in no accepted tree, and count too much or have too long trees (document 02, request (c))."""
+    def stuck(table, tree, place):
+        return number(table, tree, f'refused 14 {place}')
+
+    def not_listed(table, tree):
+        return stuck(table, tree, len(tree) - 1)
+
+    # over the paper's table: state 5 counts 100, state 6 counts 100 ** 16
+    rows = flat(PAPER + [[3, 5, 2, 4, 4], [3, 6, 16] + [5] * 16])
+    table = (7, rows, [2, 4])
+    for k, tree in enumerate(TWO + FOUR):
+        yield number(table, tree, f'result {k}')
+        yield written(table, k, tree)
+    yield (WRITE, *table, 12, room(20)), 'refused 15 0', None
+    hundred = node(3, FOUR[9], FOUR[9])   # 34 entries, the last tree of state 5
+    huge = node(3, *[hundred] * 16)       # 546 entries, the last tree of state 6
+    for tree in (node(3, FOUR[0], FOUR[0]), hundred, huge, node(3, *[node(3, FOUR[0], FOUR[9])] * 16)):
+        yield not_listed(table, tree)
+    # the node over it reaches no state
+    for tree in (a(hundred), node(3, hundred), node(3, hundred, FOUR[0]), node(3, FOUR[0], hundred), node(3, hundred, hundred), a(TWO[0], hundred),
+                 a(huge), node(3, huge), b(huge), a(huge, huge), b(TWO[0], THREE[0], huge), b(huge, THREE[0], b()), node(3, huge, FOUR[9]), node(9, hundred, a(), huge),
+                 node(3, *[hundred] * 15), node(3, *[hundred] * 17), node(3, *[hundred] * 15, FOUR[0]), node(3, *[hundred] * 8, TWO[0], *[hundred] * 7),
+                 node(3, *[huge] * 7)):
+        yield not_listed(table, tree)
+    # a node within that one, before it and after it
+    yield stuck(table, a(a(huge)), 548)
+    yield stuck(table, a(a(huge), [9, 0]), 548)
+    yield stuck(table, a(huge, [9, 0]), 548)
+    yield stuck(table, a([9, 0], huge), 2)
+    yield stuck(table, a(huge, b(a(), a())), 552)
+    yield stuck(table, a(hundred, a(b(), [4, 0])), 39)
+    yield stuck(table, node(3, *[hundred] * 15, [9, 0]), 512)
+    yield stuck(table, node(3, hundred, node(3, FOUR[0], TWO[0]), *[hundred] * 14), 56)
+    yield stuck(table, [1] * 10 + huge + [0] * 10, 556)
+    # state 5 used, and state 6 not
+    table = (7, rows, [2, 5])
+    for i, j in ((0, 0), (0, 9), (3, 7), (9, 8), (9, 9)):
+        yield from both(table, 2 + 10 * i + j, node(3, FOUR[i], FOUR[j]))
+    yield not_listed(table, huge)
+    yield not_listed(table, FOUR[9])
+    yield number((7, rows, [2, 5, 6]), TWO[0], 'refused 9 6')
+    yield (WRITE, 7, rows, [2, 5, 6], 0, room(6)), 'refused 9 6', None
+
+    # unused states below the used ones and above: 1 to 8 count 2, 4, 16 to 2 ** 128, 9 counts 0. Of the rows of 10 those of 3 and 4 count 0
+    rows = [[1, 0, 0], [10, 1, 0], [11, 1, 0]] + [[12, q, 2, q - 1, q - 1] for q in range(2, 9)]
+    rows += [[3, 10, 2, 8, 9], [1, 10, 1, 0], [7, 12, 1, 8], [2, 10, 2, 0, 0], [4, 10, 2, 9, 7], [5, 10, 1, 1], [6, 11, 2, 10, 10]]
+    table = (13, flat(rows), [9, 10, 0])
+    trees = [a(a()), b(a(), a()), node(5, [10, 0]), node(5, [11, 0]), a()]
+    for k, tree in enumerate(trees):
+        yield from both(table, k, tree)
+    yield (WRITE, *table, 5, room(9)), 'refused 15 0', None
+    squares = [[11, 0]]
+    for _ in range(7):
+        squares.append(node(12, squares[-1], squares[-1]))
+    for tree in squares[1:] + [[10, 0], [11, 0], node(7, squares[7]), node(6, trees[0], trees[3]), node(6, trees[3], trees[3])]:
+        yield not_listed(table, tree)
+    for tree in (node(3, squares[7]), node(3, squares[7], a()), node(4, a(), squares[6]), node(5, squares[1]), node(6, trees[0], squares[7]),
+                 node(12, squares[6], squares[7]), node(12, squares[7], squares[7]), node(7, squares[6]), node(6, trees[4], trees[4])):
+        yield not_listed(table, tree)
+    yield stuck(table, node(6, trees[0], node(5, squares[7])), 5 + 511)
+    yield stuck(table, node(6, node(5, squares[7]), trees[0]), 1 + 511)
+    yield stuck(table, node(12, squares[7], [9, 0]), 512)
+    # the used ones listed in another order, and an unused one that is small
+    table = (13, flat(rows), [0, 1, 11, 9])
+    for k, tree in ((0, a()), (1, [10, 0]), (2, [11, 0]), (3, node(6, trees[0], trees[0])), (6, node(6, trees[0], trees[3])), (18, node(6, trees[3], trees[3]))):
+        yield from both(table, k, tree)
+    yield not_listed(table, trees[0])
+    yield not_listed(table, squares[7])
+
+    # state q counts 2 ** (q + 1), and state 30 is listed: its numbers are the bits of its trees, the root's the highest
+    rows = flat([[1, 0, 0], [2, 0, 0]] + [[symbol, q, 1, q - 1] for q in range(1, 256) for symbol in (1, 2)])
+    table = (256, rows, [30])
+    yield number(table, [2] * 31 + [0] * 31, f'result {2 ** 31 - 1}')
+    yield not_listed(table, [2] * 256 + [0] * 256)
+    yield stuck(table, [2] * 257 + [0] * 257, 513)
+    yield stuck(table, [2] * 2048 + [0] * 2048, 2304)
+    # the same of 66 states
+    table = (66, rows[:2 * 3 + 65 * 8], [30])
+    for k in (0, 1, 2 ** 30, 2 ** 31 - 1, 0x2AAAAAAA):
+        tree = [1 + int(bit) for bit in format(k, '031b')] + [0] * 31
+        yield number(table, tree, f'result {k}')
+        yield written(table, k, tree)
+    yield (WRITE, *table, 2 ** 31, room(62)), 'refused 15 0', None
+    for depth in (30, 32, 33, 63, 64, 65, 66):
+        yield not_listed(table, [2] * depth + [0] * depth)
+    yield stuck(table, [2] * 67 + [0] * 67, 133)
+    yield stuck(table, [2] * 10 + [3] + [2] * 64 + [0] * 75, 139)
+    yield stuck(table, node(2, [2] * 64 + [0] * 64, [2] * 65 + [0] * 65), 259)
+
+    # numbers up to 4,294,967,294 in state 31, with states above it that count up to 2 ** 71 - 1: the leaf of state k, a(..) and b(..)
+    rows = []
+    for k in range(71):
+        rows += [[10 + k, k, 0]] + [[symbol, k, 1, k - 1] for symbol in (1, 2) if k > 0]
+    table = (71, flat(rows), [31])
+    for k, tree in ((0, [41, 0]), (1, [1, 40, 0, 0]), (2 ** 31, b([40, 0])), (LIMIT - 1, [2] * 31 + [10] + [0] * 32)):
+        yield from both(table, k, tree)
+    yield (WRITE, *table, LIMIT, room(70)), 'refused 15 0', None
+    for tree in ([42, 0], b([41, 0]), b(b([41, 0])), [2] * 64 + [10] + [0] * 65, [2] * 70 + [10] + [0] * 71):
+        yield not_listed(table, tree)
+    yield stuck(table, [2] * 71 + [10] + [0] * 72, 143)
+
+    # states 4 and 5 have trees of 4,098 entries; of 4 there is one of 4,096 too, and of 5 a short one
+    leaf = [9, 0]
+    sixteen = node(5, *[leaf] * 16)
+    more = node(5, *[sixteen] * 16)
+    most = node(5, *[more] * 7, *[sixteen] * 8)
+    rows = flat([[9, 0, 0], [5, 1, 16] + [0] * 16, [5, 2, 16] + [1] * 16, [5, 3, 15] + [2] * 7 + [1] * 8, [6, 4, 1, 3], [7, 4, 15] + [2] * 7 + [1] * 8,
+                 [6, 5, 1, 0], [8, 5, 1, 4]])
+    table = (6, rows, [3, 0])
+    yield from both(table, 0, most)
+    yield from both(table, 1, leaf)
+    yield not_listed(table, [7] + most[1:])
+    yield not_listed(table, [8] + most[1:])
+    yield not_listed(table, node(6, leaf))
+    yield not_listed(table, node(8, leaf))
+    yield stuck(table, node(5, *[more] * 7, *[sixteen] * 7, leaf), 4063)
+    yield stuck(table, node(8, node(6, leaf)), 5)
+    yield number(table, node(6, most), 'refused 12 0')
+    for accepting, answer in (([4], 'refused 10 4'), ([5], 'refused 10 4'), ([5, 4, 3], 'refused 10 4')):
+        yield number((6, rows, accepting), leaf, answer)
+        yield (WRITE, 6, rows, accepting, 0, room(4096)), answer, None
+
+
 def check_edges():
     """'It first refuses as the check does.': whatever the tree, the number and the lent list."""
     for case, answer in table_edges():
@@ -300,6 +424,7 @@ def edges():
     yield from empty_edges()
     yield from sums_edges()
     yield from many_edges()
+    yield from unused_edges()
     yield from check_edges()
 
 
@@ -309,12 +434,17 @@ def enumerated(draw, count):
     """Cases with their outcomes, and what the lent list then holds: every tree and every number, the total, and some trees that are refused."""
     small = 0
     while small < count:
-        _, rows, accepting = table = sound(draw, draw.between(2, 5), draw.between(3, 8), draw.pick([2, 2, 3]), 2).case()
-        answer = check(*table)
+        t = sound(draw, draw.between(2, 5), draw.between(3, 8), draw.pick([2, 2, 3]), 2)
+        _, rows, accepting = t.case()
+        answer = check(*t.case())
         if answer[0] == 'refused' or answer[1] not in range(2, 31):
             continue
         small += 1
         trees = trees_in_order(whole_rows(rows), accepting)
+        # in every third, states that are in no accepted tree: the accepted trees and their order stay
+        if small % 3 == 0:
+            half_drawn(draw, t)
+        _, rows, accepting = table = t.case()
         for k, tree in enumerate(map(list_of, trees)):
             n = len(tree)
             yield (NUMBER, *table, tree), ('result', k), None
@@ -326,13 +456,37 @@ def enumerated(draw, count):
         yield (WRITE, *table, len(trees), room(4)), refused(15), room(4)
         known = {}
         others = [tree for nodes in range(1, 5) for tree in all_trees([1, 2], nodes, known)]
-        for tree in draw.shuffled(others)[:6]:
+        some = draw.shuffled(others)[:6]
+        if small % 3 == 0:
+            of_state = [tree for tree in least_trees(whole_rows(rows), 300).values() if tree not in some]
+            some += draw.shuffled(of_state)[:6] + [(draw.pick([1, 2]), (draw.pick(of_state), draw.pick(trees)))]
+        for tree in some:
             place = refused_place(whole_rows(rows), accepting, tree)
             outcome = ('result', trees.index(tree)) if place is None else refused(14, place)
             yield (NUMBER, *table, list_of(tree)), outcome, None
 
 
 # Larger tables
+
+def least_trees(table, most):
+    """For each state one of its shortest trees, if that has at most so many entries."""
+    found = {}
+    for row in sorted(table, key=lambda row: row.target):
+        if all(argument in found for argument in row.arguments):
+            tree = (row.symbol, tuple(found[argument][1] for argument in row.arguments))
+            length = 2 + sum(found[argument][0] for argument in row.arguments)
+            if length <= min(most, found[row.target][0] - 1 if row.target in found else most):
+                found[row.target] = (length, tree)
+    return {state: tree for state, (_, tree) in found.items()}
+
+
+def passing(draw, table, tree):
+    """A tree that passes through some state, used or not: one of its shortest trees, alone or in place of a subtree."""
+    other = list_of(draw.pick(list(least_trees(whole_rows(table[1]), 400).values())))
+    nodes = [place for place, entry in enumerate(tree) if entry]
+    at = draw.pick(nodes)
+    return other if draw.chance(0.4) else tree[:at] + other + tree[end_of(tree, at):]
+
 
 def end_of(tree, at):
     """The place after the subtree that begins here."""
@@ -422,9 +576,11 @@ def some_table(draw, n):
             t = layered(draw, draw.between(3, 12), draw.between(6, 25), draw.pick([2, 3, 5]), draw.pick([2, 5, 255])) if draw.chance(0.6) else any_sound(draw)
             if draw.chance(0.6):
                 t.accepting = draw.shuffled(range(t.states))
+            if n % 3 == 0:
+                half_drawn(draw, t)
         # a first look, quicker than the check
         counts = Counts([Row(row[0], row[1], tuple(row[3:])) for row in t.rows])
-        if any(counts.of_state(state) > LIMIT for state in range(t.states)) or counts.total(t.accepting) < least:
+        if counts.total(t.accepting) not in range(least, LIMIT + 1):
             continue
         if n % 10 == 9 and n % 100 != 99 and counts.longest(t.accepting[0]) < 500:
             continue
@@ -443,7 +599,7 @@ def some_number(draw, total):
 
 
 def drawn(draw, count):
-    """Trees of numbers below the total, numbered and written, and damaged trees."""
+    """Trees of numbers below the total, numbered and written; damaged trees, and trees that pass through any state."""
     for n in range(count):
         table, total = some_table(draw, n)
         symbols = table[1][:1] + [row.symbol for row in whole_rows(table[1])] + [255]
@@ -452,5 +608,7 @@ def drawn(draw, count):
         yield NUMBER, *table, tree
         k = some_number(draw, total)
         yield WRITE, *table, k, room(some_room(draw, min(len(tree) * 2, 4096)))
-        if n % 100 != 99:
+        if n % 6 == 0:
+            yield NUMBER, *table, passing(draw, table, tree)
+        elif n % 100 != 99:
             yield NUMBER, *table, damaged(draw, tree, symbols)

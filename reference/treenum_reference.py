@@ -1,7 +1,7 @@
 """The five operations and the program treenum, written a second time from document 01, in plain Python.
 
 check(states, rows, accepting) answers ('total', N) or ('refused', number, place). Numbers have no upper
-bound here.
+bound here; only what an unused state counts is not followed beyond MANY.
 
 number(states, rows, accepting, tree) answers ('result', N) or ('refused', number, place). A tree is a list
 of numbers.
@@ -12,7 +12,8 @@ texts are bytes.
 
 treenum_lines(bytes) gives what the program treenum prints for these bytes.
 
-Quotations are document 01's sentences; of spellings, those of document 02, request (a).
+Quotations are document 01's sentences; of spellings, those of document 02, request (a), and of used states, those of
+request (c).
 
 Run with --self-test: compares with document 01's own numbers, and with trees, terms and texts that are listed
 one by one.
@@ -63,9 +64,13 @@ def check(states, rows, accepting):
     # (accepting_tests).
 
     # 'Then states are taken in turn from 0, the first faulty state decides, and its number is the place; for
-    # each, a count above 4,294,967,295 is 9, and after that a longest tree above 4,096 entries is 10.'
+    # each, a count above 4,294,967,295 is 9, and after that a longest tree above 4,096 entries is 10.' '9 and 10 speak
+    # of used states only, in their old places.'
     counts = Counts(table)
+    used = counts.used(accepting)
     for state in range(states):
+        if state not in used:
+            continue
         if counts.of_state(state) > 4294967295:
             return refused(9, state)
         longest = counts.longest(state)
@@ -116,19 +121,31 @@ def row_fault(states, earlier, rows, at):
     return None
 
 
+# Far above every limit, and so no answer hangs on how much more a state counts. A state over 16 of the state below it,
+# and so on, counts more than there is room for.
+MANY = 2 ** 2000
+
+
 class Counts:
     """Counting, for a table in which every argument is below its target.
 
-    What was found for a state is kept, and is found once.
+    What was found for a row or a state is kept, and is found once. States are taken from the lowest up, so that none waits for
+    many below it.
     """
 
-    def __init__(self, table):
+    def __init__(self, table, many=MANY):
         self.table = table
+        self.many = many
         self.state_rows = {}
+        self.row_counts = {}
         self.state_counts = {}
         self.longest_trees = {}
         self.earlier_counts = {}
+        self.state_trees = {}
         self.by_contents = {(row.symbol, row.arguments): row for row in table}
+        for state in sorted({row.target for row in table}):
+            self.of_state(state)
+            self.longest(state)
 
     def rows_of(self, state):
         if state not in self.state_rows:
@@ -141,15 +158,18 @@ class Counts:
 
     def of_row(self, row):
         """'A row without arguments counts 1; any other row counts the product of its arguments' counts.'"""
-        return math.prod(self.of_state(argument) for argument in row.arguments)
+        if row not in self.row_counts:
+            self.row_counts[row] = math.prod(self.of_state(argument) for argument in row.arguments)
+        return self.row_counts[row]
 
     def of_state(self, state):
         """'A state counts the sum over the rows with it as target'
 
-        'A state without rows counts 0, and so does a row that uses it.'
+        'A state without rows counts 0, and so does a row that uses it.' A state that counts more than `many` has that
+        many here: a row that uses it then has at least as many, or 0, as it should.
         """
         if state not in self.state_counts:
-            self.state_counts[state] = sum(self.of_row(row) for row in self.rows_of(state))
+            self.state_counts[state] = min(sum(self.of_row(row) for row in self.rows_of(state)), self.many)
         return self.state_counts[state]
 
     def total(self, accepting):
@@ -168,6 +188,46 @@ class Counts:
                  for row in self.rows_of(state) if self.of_row(row) > 0),
                 default=None)
         return self.longest_trees[state]
+
+    def used(self, accepting):
+        """'A state is used if some accepted tree has a subtree reaching it.'
+
+        The accepted trees are listed where they are few and short. Where they are not, the rows decide.
+        """
+        if self.total(accepting) <= 20 and all((self.longest(state) or 0) <= 9000 for state in accepting):
+            return self.used_by_trees(accepting)
+        return self.used_by_rows(accepting)
+
+    def used_by_trees(self, accepting):
+        """The states that subtrees of accepted trees reach; a tree is a subtree of itself."""
+        used = set()
+        waiting = [tree for state in accepting for tree in self.trees(state)]
+        while waiting:
+            row, children = waiting.pop()
+            used.add(row.target)
+            waiting += children
+        return used
+
+    def trees(self, state):
+        """The trees that reach a state, one by one, each as its row and its children. A row that counts 0 has none."""
+        if state not in self.state_trees:
+            self.state_trees[state] = [
+                (row, children) for row in self.rows_of(state) if self.of_row(row) > 0
+                for children in itertools.product(*map(self.trees, row.arguments))]
+        return self.state_trees[state]
+
+    def used_by_rows(self, accepting):
+        """A listed state that counts above 0 is used, and so is each argument of a row that counts above 0 and has a
+        used state as its target.
+        """
+        used = set()
+        waiting = [state for state in accepting if self.of_state(state) > 0]
+        while waiting:
+            state = waiting.pop()
+            if state not in used:
+                used.add(state)
+                waiting += [argument for row in self.rows_of(state) if self.of_row(row) > 0 for argument in row.arguments]
+        return used
 
     def earlier(self, row):
         """'the counts of all earlier rows with the same target'"""
@@ -249,15 +309,38 @@ def tree_fault(tree):
 
 @functools.lru_cache(maxsize=8)
 def checked(states, rows, accepting):
-    """The check's answer, and the counts of a table that passes. The tables asked for last are kept."""
+    """The check's answer, and the counts and used states of a table that passes. The tables asked for last are kept."""
     answer = check(states, rows, accepting)
-    return answer, None if answer[0] == 'refused' else Counts(whole_rows(rows))
+    if answer[0] == 'refused':
+        return answer, None, None
+    counts = Counts(whole_rows(rows))
+    return answer, counts, counts.used(accepting)
+
+
+def state_and_value(counts, used, tree):
+    """The state that a well-formed tree reaches, and its value there, None if the state is not used. If a subtree
+    reaches no state, None and the place of the first bar that closes one.
+
+    'no value is formed in an unused one': a tree with a subtree in an unused state is in none that is used.
+    """
+    opened = [(None, [])]   # the symbols of the open nodes, with the states and values of their children so far
+    for place, entry in enumerate(tree):
+        if entry != 0:
+            opened.append((entry, []))
+        else:
+            symbol, children = opened.pop()
+            row = counts.row_with(symbol, [state for state, _ in children])
+            if row is None:
+                return None, place
+            value = counts.value(row, [value for _, value in children]) if row.target in used else None
+            opened[-1][1].append((row.target, value))
+    return opened[0][1][0]
 
 
 def number(states, rows, accepting, tree):
     """'Numbering a tree gives its number.'"""
     # 'It first refuses as the check does.'
-    answer, counts = checked(states, tuple(rows), tuple(accepting))
+    answer, counts, used = checked(states, tuple(rows), tuple(accepting))
     if answer[0] == 'refused':
         return answer
 
@@ -270,24 +353,16 @@ def number(states, rows, accepting, tree):
 
     # 'A tree that the table does not accept is 14. Its place is the first bar that closes a subtree reaching no
     # state;'
-    opened = [(None, [])]   # the symbols of the open nodes, with the states and values of their children so far
-    for place, entry in enumerate(tree):
-        if entry != 0:
-            opened.append((entry, []))
-        else:
-            symbol, children = opened.pop()
-            row = counts.row_with(symbol, [state for state, _ in children])
-            if row is None:
-                return refused(14, place)
-            opened[-1][1].append((row.target, counts.value(row, [value for _, value in children])))
+    state, found = state_and_value(counts, used, tree)
+    if state is None:
+        return refused(14, found)
 
     # 'if the whole tree reaches a state that is not listed, it is the last bar.'
-    state, value = opened[0][1][0]
     if state not in accepting:
         return refused(14, len(tree) - 1)
 
     # 'Its number is that value plus the counts of the accepting states listed earlier'
-    return ('result', value + counts.total(accepting[:accepting.index(state)]))
+    return ('result', found + counts.total(accepting[:accepting.index(state)]))
 
 
 def write(states, rows, accepting, number, lent):
@@ -296,7 +371,7 @@ def write(states, rows, accepting, number, lent):
     same = list(lent)
 
     # 'It first refuses as the check does.'
-    answer, counts = checked(states, tuple(rows), tuple(accepting))
+    answer, counts, _ = checked(states, tuple(rows), tuple(accepting))
     if answer[0] == 'refused':
         return answer, same
 
@@ -598,8 +673,17 @@ def trees_of_rows(table, state):
             for children in itertools.product(*(trees_of_rows(table, argument) for argument in row.arguments))]
 
 
+def subtrees(tree):
+    """The tree itself and all below it."""
+    yield tree
+    for child in tree[1]:
+        yield from subtrees(child)
+
+
 def agrees(states, rows, accepting):
-    """Whether the counts, longest trees and total of a sound table are those of its trees, listed one by one."""
+    """Whether the counts, longest trees, total and used states of a sound table are those of its trees, listed one by
+    one.
+    """
     table = whole_rows(rows)
     counts = Counts(table)
     lists = [trees_of_rows(table, state) for state in range(states)]
@@ -612,6 +696,7 @@ def agrees(states, rows, accepting):
     # The same among all trees up to the longest.
     found = [0] * states
     accepted = 0
+    used = set()
     known = {}
     symbols = sorted({row.symbol for row in table})
     most = max((counts.longest(state) or 0 for state in range(states)), default=0) // 2
@@ -623,8 +708,11 @@ def agrees(states, rows, accepting):
             # 'A tree is accepted if it reaches a state on the accepting list.'
             if any(state in accepting for state in targets):
                 accepted += 1
+                # 'A state is used if some accepted tree has a subtree reaching it.'
+                used.update(state for subtree in subtrees(tree) for state in reached(table, subtree))
     return (found == [counts.of_state(state) for state in range(states)]
-            and check(states, rows, accepting) == ('total', accepted))
+            and check(states, rows, accepting) == ('total', accepted)
+            and counts.used_by_trees(accepting) == used and counts.used_by_rows(accepting) == used)
 
 
 # The order, by the definitions alone
@@ -749,6 +837,18 @@ def small_table(draw):
     accepting = [state for state in range(states) if draw.random() < 0.6]
     draw.shuffle(accepting)
     return states, rows, accepting
+
+
+def sparse_table(draw):
+    """A sound table of six states, most of them with a leaf, one or two without rows. One or two are listed."""
+    filled = draw.sample(range(6), draw.randint(4, 5))
+    rows = [Row(10 + state, state, ()) for state in filled if draw.random() < 0.7]
+    for target in draw.choices(filled, k=draw.randint(2, 6)):
+        row = Row(draw.randint(1, 2), target, tuple(draw.choices(range(target), k=draw.randint(1, 3)) if target else ()))
+        if not any(row.symbol == other.symbol and row.arguments == other.arguments for other in rows):
+            rows.append(row)
+    draw.shuffle(rows)
+    return 6, rows, draw.sample(range(6), draw.randint(1, 2))
 
 
 def check_with_8(states, rows, accepting):
@@ -975,6 +1075,97 @@ def accepting_tests(expect):
     expect('tables with 8', [table for table in tables if check_with_8(*table) != check(*table)], [])
 
 
+def unfinished(draw, states, rows):
+    """More states and rows: five states, the first over 16 of some state, each other over 16 of the one before it. No
+    row below names them. Where that state counts 2 and more the last one counts over 10 ** 315000, and has trees of
+    1,048,576 leaves.
+    """
+    first = draw.randrange(states)
+    more = [[3, states + k, 16] + [states + k - 1 if k else first] * 16 for k in range(5)]
+    draw.shuffle(more)
+    more = [entry for row in more for entry in row]
+    return states + 5, more + rows if draw.random() < 0.5 else rows + more
+
+
+def used_tests(expect):
+    # By hand: states, rows, accepting list and used states.
+    empty = [1, 0, 0, 1, 3, 1, 2, 2, 3, 2, 0, 2, 2, 4, 1, 3, 3, 4, 1, 1, 2, 1, 0]   # 2 has no row, 3 counts 0
+    for states, rows, accepting, used in (
+            (*PAPER, {0, 1, 2, 3, 4}), (5, PAPER_ROWS, [2], {0, 1, 2}), (5, PAPER_ROWS, [3], {0, 1, 3}), (5, PAPER_ROWS, [1], {1}),
+            (5, PAPER_ROWS, [1, 0], {0, 1}), (5, PAPER_ROWS, [4], {0, 1, 2, 3, 4}), (5, PAPER_ROWS, [], set()), (0, [], [], set()),
+            (2, [1, 0, 0, 1, 1, 1, 0], [0], {0}), (2, [1, 0, 0, 1, 1, 1, 0], [1], {0, 1}), (3, [1, 0, 0], [1, 2], set()),
+            # of state 4 the row over 3 counts 0, and so does each row of 3, over 2 and over 0 and 2: they use nothing
+            (5, empty, [4], {1, 4}), (5, empty, [3], set()), (5, empty, [2, 3], set()), (5, empty, [3, 0], {0}), (5, empty, [0, 1, 2, 3, 4], {0, 1, 4})):
+        counts = Counts(whole_rows(rows))
+        expect(f'used, by trees, of {rows} {accepting}', counts.used_by_trees(accepting), used)
+        expect(f'used, by rows, of {rows} {accepting}', counts.used_by_rows(accepting), used)
+
+    # Drawn tables: the two ways, and the definition over all trees that reach a state.
+    draw = random.Random(4)
+    met = dict.fromkeys(('unused', 'listed and empty', 'named in vain', 'as an argument'), 0)
+    tried = 0
+    while tried < 300:
+        states, table, accepting = sparse_table(draw)
+        counts = Counts(table)
+        if sum(map(counts.of_state, range(states))) > 150:
+            continue
+        tried += 1
+        trees = known_trees(table)
+        used = set()
+        for tree in trees:
+            if any(state in accepting for state in reached(table, tree)):
+                used.update(state for subtree in subtrees(tree) for state in reached(table, subtree))
+        expect(f'used states of {table} {accepting}', (counts.used_by_trees(accepting), counts.used_by_rows(accepting)), (used, used))
+        met['unused'] += any(counts.of_state(state) > 0 and state not in used for state in range(states))
+        met['listed and empty'] += any(counts.of_state(state) == 0 for state in accepting)
+        met['named in vain'] += any(row.target in used and counts.of_state(argument) > 0 and argument not in used
+                                    for row in table for argument in row.arguments)
+        met['as an argument'] += any(state not in accepting for state in used)
+        # 'no value is formed in an unused one': those that are formed, and the places of 14, are the same as with all values
+        for tree in itertools.chain(trees, all_trees([1, 2], 3, {})):
+            formed, all_formed = (state_and_value(counts, some, list_of(tree)) for some in (used, set(range(states))))
+            if formed[0] is None or formed[0] in used:
+                expect(f'value of {tree} in {table} {accepting}', formed, all_formed)
+            else:
+                expect(f'no value of {tree} in {table} {accepting}', formed, (all_formed[0], None))
+    expect('kinds of drawn tables', [kind for kind, times in met.items() if times < 5], [])
+
+    # With unfinished states beside them: the same total, numbers and trees, and 14 by the definition.
+    draw = random.Random(5)
+    tried = 0
+    while tried < 100:
+        states, rows, accepting = small_table(draw)
+        trees = trees_in_order(whole_rows(rows), accepting)
+        if not 1 <= len(trees) <= 60:
+            continue
+        tried += 1
+        table = (*unfinished(draw, states, rows), accepting)
+        counts = Counts(whole_rows(table[1]))
+        what = f'of {table}'
+        expect('used ' + what, counts.used_by_rows(accepting), Counts(whole_rows(rows)).used_by_rows(accepting))
+        if len(trees) <= 20:
+            expect('used, by trees, ' + what, counts.used_by_trees(accepting), counts.used_by_rows(accepting))
+        expect('total ' + what, check(*table), ('total', len(trees)))
+        for place, tree in enumerate(map(list_of, trees)):
+            expect(f'number {place} ' + what, number(*table, tree), ('result', place))
+            expect(f'tree {place} ' + what, write(*table, place, [7] * len(tree)), (('result', len(tree)), tree))
+        all_known = list(known_trees(whole_rows(rows)))
+        for tree in draw.choices(all_known, k=3):
+            over = (3, (tree,) * 16)
+            twice = (3, (over,) * 16)
+            for other in (over, twice, (1, (over,)), (2, (over, twice)), (1, (tree, twice)), (3, (over,) * 15 + (tree,)), (3, (over,) * 15 + ((9, ()),))):
+                expect(f'{other} ' + what, number(*table, list_of(other)), refused(14, refused_place(whole_rows(table[1]), accepting, other)))
+
+    # What a state counts is not followed beyond `many`, and up to it is exact.
+    draw = random.Random(6)
+    for _ in range(300):
+        states, rows, _ = small_table(draw)
+        for many in (2, 3, 10, 100):
+            kept, exact = Counts(whole_rows(rows), many), Counts(whole_rows(rows))
+            expect(f'at most {many} of {rows}', [kept.of_state(state) for state in range(states)],
+                   [min(exact.of_state(state), many) for state in range(states)])
+
+
 def tree_tests(expect):
     # 'Starred facts'
     expect('trees of the paper, in order', [text_of(list_of(tree), [b'a', b'b']) for tree in trees_in_order(whole_rows(PAPER_ROWS), [2, 4])],
@@ -1040,7 +1231,8 @@ def self_test():
     squares = [1, 0, 0, 2, 0, 0, 1, 1, 2, 0, 0, 1, 2, 2, 1, 1, 1, 3, 2, 2, 2, 1, 4, 2, 3, 3]
     counts = Counts(whole_rows(squares))
     expect('squares', [counts.of_state(state) for state in range(5)], [2, 4, 16, 256, 65536])
-    expect('65,536 twice', check(6, squares + [2, 5, 2, 4, 4], []), refused(9, 5))
+    expect('65,536 twice', check(6, squares + [2, 5, 2, 4, 4], [5]), refused(9, 5))
+    expect('65,536 twice, not used', check(6, squares + [2, 5, 2, 4, 4], [4]), ('total', 65536))
     expect('65,536 twice and 0', check(7, squares + [2, 6, 3, 4, 4, 5], [6]), ('total', 0))
     # 65,535 = 3 * 5 * 17 * 257 and 65,537 = 65,536 + 1
     factors = [3, 5, 0, 4, 5, 0, 5, 5, 0, 3, 6, 1, 1, 6, 6, 0, 3, 7, 1, 2, 7, 7, 0, 3, 8, 1, 3, 8, 8, 0,
@@ -1059,6 +1251,7 @@ def self_test():
         expect('longest trees', [counts.longest(state) for state in range(4)], expected)
     expect('4,096 entries', check(4, most, [3]), ('total', 1))
     expect('4,098 entries', check(4, more, [3]), refused(10, 3))
+    expect('4,098 entries, not used', check(4, more, [2]), ('total', 1))
 
     # Small tables against trees listed one by one.
     draw = random.Random(1)
@@ -1071,6 +1264,7 @@ def self_test():
             small += 1
 
     accepting_tests(expect)
+    used_tests(expect)
     tree_tests(expect)
     term_tests(expect)
     spelling_tests(expect)

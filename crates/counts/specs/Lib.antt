@@ -1,2 +1,5 @@
 pub mod Chain
+pub mod Marks
+pub mod Kept
 pub mod States
+pub mod Prepared

@@ -9,7 +9,8 @@ use Rattle.model.specs.Tree.{serialForest, serial}
 use Rattle.model.specs.Reach.{rowWith, statesOf, entryOf}
 use Rattle.model.specs.Count.{sum, product, weight, stateCounts, grow, count, total, largest, rowLongest, stateLongest, longest}
 use Rattle.model.specs.Value.{horner, earlierRows, rowValue, valuesOf, numberOf, findBy, childrenFrom, treeIn, treeOf}
-use Rattle.model.specs.Check.{allBelow, cut, tooMany, outOfRange, notBelow, repeated, rowGround, acceptingGround, stateGround, checkWithin, checkOutcome}
+use Rattle.model.specs.Used.{stateUsed, growDown, isUsed}
+use Rattle.model.specs.Check.{allBelow, cut, tooMany, outOfRange, notBelow, repeated, rowGround, acceptingGround, limitGround, stateGround, checkWithin, checkOutcome}
 use Rattle.model.specs.Names.{isLetter, isNameByte, allNameBytes, isName, lower, alike, linesOf, nameOf, lineWith, symbolOf, isListed, lineGround, namesThen}
 use Rattle.model.specs.Entries.{openAfter, entryGround, endsTooSoon, formThen, treeThen, levelsOf, treeFrom}
 use Rattle.model.specs.Term.{textOfTerms, textOf, step, scan, termThen, run, nameBegins, before, seenFrom, termFrom}
@@ -78,5 +79,5 @@ edges =
     ∷ []
 
 edge-samples : map given edges ≡ map due edges
-unfolding refuseOn firstFaulty anyBelow rowStart howMany howManyRows firstRows rowsOf sameBy rowIs serialForest serial rowWith statesOf entryOf sum product weight stateCounts grow count total largest rowLongest stateLongest longest horner earlierRows rowValue valuesOf numberOf findBy childrenFrom treeIn treeOf allBelow cut tooMany outOfRange notBelow repeated rowGround acceptingGround stateGround checkWithin checkOutcome isLetter isNameByte allNameBytes isName lower alike linesOf nameOf lineWith symbolOf isListed lineGround namesThen openAfter entryGround endsTooSoon formThen treeThen levelsOf treeFrom textOfTerms textOf step scan termThen run nameBegins before seenFrom termFrom symbolsOf namesOf entriesOf bytesOf nameGround readTermOutcome symbolGround writeTermOutcome reachesNone stuckThen acceptedThen numberTree numberOutcome treeEntries writeTree entriesFor writeOutcome ascii paperRowList flatten paperRows paperNames allDigits isNumber numberAfter numberIn decimalBy decimal answerNumber answerTerm answerTo answersTo outputFor times
+unfolding refuseOn firstFaulty anyBelow rowStart howMany howManyRows firstRows rowsOf sameBy rowIs serialForest serial rowWith statesOf entryOf sum product weight stateCounts grow count total largest rowLongest stateLongest longest horner earlierRows rowValue valuesOf numberOf findBy childrenFrom treeIn treeOf allBelow cut tooMany outOfRange notBelow repeated rowGround acceptingGround limitGround stateGround stateUsed growDown isUsed checkWithin checkOutcome isLetter isNameByte allNameBytes isName lower alike linesOf nameOf lineWith symbolOf isListed lineGround namesThen openAfter entryGround endsTooSoon formThen treeThen levelsOf treeFrom textOfTerms textOf step scan termThen run nameBegins before seenFrom termFrom symbolsOf namesOf entriesOf bytesOf nameGround readTermOutcome symbolGround writeTermOutcome reachesNone stuckThen acceptedThen numberTree numberOutcome treeEntries writeTree entriesFor writeOutcome ascii paperRowList flatten paperRows paperNames allDigits isNumber numberAfter numberIn decimalBy decimal answerNumber answerTerm answerTo answersTo outputFor times
 edge-samples = refl

@@ -69,7 +69,7 @@ unfolding isIn
 by-check (check1 n p a) = on checking 1 n refl
 by-check (check2to6 s f) = by-row (f .here)
 by-check (check7 n s c f) = on checking 7 n refl
-by-check (check9to10 s c d l f) = by-state (f .here)
+by-check (check9to10 s c d f) = by-state (f .here)
 by-check (check11 n s c d f) = on checking 11 n refl
 
 check-card : (states : ℕ) (rows accepting : List ℕ) (number place : ℕ) → checkOutcome states rows accepting ≡ refused number place → List·Memᴰ number (cardNumbers checking)

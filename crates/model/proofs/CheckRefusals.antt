@@ -16,16 +16,18 @@ use Rattle.model.specs.Table.{Row, Table, argCountAt, rowStart, rowNumbe
 use Rattle.model.specs.Count.{count, total, longest}
 use Rattle.model.specs.Tree.{Tree}
 use Rattle.model.specs.Reach.{Reaches, Accepted}
-use Rattle.model.specs.Check.{allBelow, isState, cut, tooMany, outOfRange, notBelow, repeated, rowGround, acceptingGround, stateGround, countsOutcome, checkWithin, checkOutcome, countLimit}
+use Rattle.model.specs.Used.{Used}
+use Rattle.model.specs.Check.{allBelow, isState, cut, tooMany, outOfRange, notBelow, repeated, rowGround, acceptingGround, limitGround, stateGround, countsOutcome, checkWithin, checkOutcome, countLimit}
 use Rattle.model.specs.Limits.{ReachedBy, WithinLimits, BeyondLimits, nine, ten}
 use Rattle.model.specs.CheckRefusals.{RowBegins, RowCut, RowTooMany, SomeArgument, RowOutOfRange, RowNotBelow, RowRepeated, RowRefused, row2, row3, row4, row5, row6, FaultlessRow, FaultlessRows, EntryFaulty, FaultlessEntries, CheckRefused, check1, check2to6, check7, check9to10, check11, CheckRefuses, CheckGives}
 use Rattle.model.proofs.Choice.{if-no, if-yes, if-zero, refused-number, refused-place, or-true, or-left, or-right, not-both, is-false, no-fault, fault-refused, any-true, any-some, if-refused, result-only, Decided, clear, faulty, decided, ground-alone}
 use Rattle.model.proofs.Good.{Good}
 use Rattle.model.proofs.Exactly.{exactly-once}
 use Rattle.model.proofs.Longest.{longest-none, longest-tree}
+use Rattle.model.proofs.Used.{used-exactly, used-state}
 use Rattle.model.proofs.Passing.{state-ground}
 use Rattle.model.proofs.Limits.{state-counted, tree-most, within-limits, beyond-limits, total-counted}
-use Rattle.model.proofs.Checked.{allBelow-true, passes-just, sound-good}
+use Rattle.model.proofs.Checked.{allBelow-true, passes-just, sound-good, ground-used}
 use Rattle.model.proofs.Rows.{rowCount, rowStart-grows, rowIs-true, rowIs-yes}
 
 -- ---- what a test says
@@ -284,17 +286,20 @@ module _ (T : Table) (good : Good T) (q : ℕ) (l : q < T .states) where
   counted : (many : ℕ) → ReachedBy (T .rows) q many → many ≡ count T q
   counted many r = exactly-once (λ (t : Tree). Reaches (T .rows) t q) many (count T q) r (state-counted T good q l)
 
-  pub limits-ground : WithinLimits T q → stateGround countLimit T q ≡ 0
-  limits-ground w = state-ground countLimit T q (omega (arith, counted (w .many) (w .reached), w .few)) (go (eq-zero-or-pos (count T q)))
+  pub limits-ground : (Used T q → WithinLimits T q) → stateGround countLimit T q ≡ 0
+  limits-ground h = state-ground countLimit T q (λ u. held (h (used-exactly T good q .0 u)))
     where
-      go : (count T q ≡ 0) ⊎ (0 < count T q) → longest T q ≤ 4096
-      go (inl z) = omega (arith, longest-none T good q z)
-      go (inr p) = let t = longest-tree T good q l p in omega (arith, t .has, w .short (t .tree) (t .reaches))
+      long : WithinLimits T q → (count T q ≡ 0) ⊎ (0 < count T q) → longest T q ≤ 4096
+      long w (inl z) = omega (arith, longest-none T good q z)
+      long w (inr p) = let t = longest-tree T good q l p in omega (arith, t .has, w .short (t .tree) (t .reaches))
 
-  pub beyond-ground : (number : ℕ) → BeyondLimits T q number → (stateGround countLimit T q ≡ number) × (0 < number)
-  unfolding stateGround
-  beyond-ground number (nine n many r a) = (rw (lt-ltb countLimit (count T q) (omega (arith, counted many r, a)), n), rw n (omega arith))
-  beyond-ground number (ten n many r a t h b) = (
+      held : WithinLimits T q → (count T q ≤ countLimit) × (longest T q ≤ 4096)
+      held w = (omega (arith, counted (w .many) (w .reached), w .few), long w (eq-zero-or-pos (count T q)))
+
+  beyond-limit : (number : ℕ) → BeyondLimits T q number → (limitGround countLimit T q ≡ number) × (0 < number)
+  unfolding limitGround
+  beyond-limit number (nine n many r a) = (rw (lt-ltb countLimit (count T q) (omega (arith, counted many r, a)), n), rw n (omega arith))
+  beyond-limit number (ten n many r a t h b) = (
     rw (
       le-ltb countLimit (count T q) (omega (arith, counted many r, a)),
       lt-ltb 4096 (longest T q) (omega (arith, tree-most T good t q h, b)),
@@ -302,6 +307,9 @@ module _ (T : Table) (good : Good T) (q : ℕ) (l : q < T .states) where
     ),
     rw n (omega arith),
   )
+
+  pub beyond-ground : (number : ℕ) → Used T q → BeyondLimits T q number → (stateGround countLimit T q ≡ number) × (0 < number)
+  beyond-ground number h b = let e = beyond-limit number b in (ground-used countLimit T q (used-exactly T good q .1 h) ∙ e .0, e .1)
 
 -- ---- the check
 
@@ -363,7 +371,7 @@ module _ (states : ℕ) (rows accepting : List ℕ) where
             check11 (x .1) s (rows-faultless c) (entries-faultless d)
             (record {
               zero-place = x .2;
-              states = λ q l. within-limits T good q l (h q l);
+              states = λ q u. within-limits T good q u (h q (used-state T q (used-exactly T good q .1 u)));
               many = total T;
               accepted = total-counted T good;
               beyond = ltb-true countLimit (total T) (x .0);
@@ -380,8 +388,8 @@ module _ (states : ℕ) (rows accepting : List ℕ) where
         go (clear h f) = total-refused s c d h (sym f ∙ e)
         go (faulty q l h p f) =
             moved (λ n i. CheckRefused states rows accepting n i) (stateGround countLimit T q) q (sym f ∙ e)
-            (check9to10 s (rows-faultless c) (entries-faultless d) l
-            (record { before = λ a k. within-limits T good a (omega arith) (h a k); here = beyond-limits T good q l p }))
+            (check9to10 s (rows-faultless c) (entries-faultless d)
+            (let b = beyond-limits T good q l p in record { before = λ a k u. within-limits T good a u (h a k); used = b .0; here = b .1 }))
 
     entry-refused : states ≤ 256 → ClearRows → afterRows ≡ refused number place → Refused
     entry-refused s c e = go (decided (howManyEntries accepting) (acceptingGround states accepting) afterEntries)
@@ -432,16 +440,17 @@ module _ (states : ℕ) (rows accepting : List ℕ) where
       rows-pass s (faultless-rows c)
       ∙ at-fault (howManyEntries accepting) place number (acceptingGround states accepting) afterEntries (f .within)
       (λ j m. faultless-entry states accepting j (f .before j m)) (faulty-entry states accepting place (f .here) ∙ sym n, rw n (omega arith))
-  ground-refuses number place (check9to10 s c d l f) =
+  ground-refuses number place (check9to10 s c d f) =
       let good = sound-good states rows accepting (faultless-rows c) (faultless-entries d) in
+      let l = used-state T place (used-exactly T good place .1 (f .used)) in
       entries-pass s (faultless-rows c) (faultless-entries d)
       ∙ at-fault states place number (stateGround countLimit T) afterStates l
-      (λ q m. limits-ground T good q (omega arith) (f .before q m)) (beyond-ground T good place l number (f .here))
+      (λ q m. limits-ground T good q (omega arith) (f .before q m)) (beyond-ground T good place l number (f .used) (f .here))
   ground-refuses number place (check11 n s c d f) =
       let good = sound-good states rows accepting (faultless-rows c) (faultless-entries d) in
       rw (n, f .zero-place)
       (entries-pass s (faultless-rows c) (faultless-entries d)
-      ∙ no-fault states (stateGround countLimit T) afterStates (λ q l. limits-ground T good q l (f .states q l))
+      ∙ no-fault states (stateGround countLimit T) afterStates (λ q l. limits-ground T good q l (f .states q))
       ∙ if-yes (ltb countLimit (total T)) (refused 11 0) (result (total T))
       (lt-ltb countLimit (total T) (omega (arith, exactly-once (Accepted T) (f .many) (total T) (f .accepted) (total-counted T good), f .beyond))))
 

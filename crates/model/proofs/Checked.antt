@@ -1,7 +1,7 @@
 -- The check of a table: it passes just where no ground of document 01 holds, and a table that passes is good.
 use Prim.Native.Nat.{ℕ, _-_, _≤_, _<_}
 use mathlib.Core.Path.{_≡_, refl, ap, sym, _∙_}
-use mathlib.Core.Bool.{true, false, not, _||_}
+use mathlib.Core.Bool.{Bool, true, false, not, _||_}
 use mathlib.Core.List.{List, [], _∷_}
 use mathlib.Core.Logic.{_⊎_, inl, inr, _↔_}
 use native.Mathlib.Omega.{arith}
@@ -14,10 +14,12 @@ use Rattle.model.specs.Answers.{result, refused}
 use Rattle.model.specs.Choice.{anyBelow}
 use Rattle.model.specs.Table.{Row, Table, noRow, pack, argCountAt, rowStart, rowNumbered, howManyRows, rowsOf, rowIs, howManyEntries, stateAt, acceptingStates, tableOf, Whole}
 use Rattle.model.specs.Count.{count, total, longest}
-use Rattle.model.specs.Check.{allBelow, isState, cut, tooMany, outOfRange, notBelow, repeated, rowGround, acceptingGround, stateGround, checkWithin, countLimit, checkOutcome, Passes}
+use Rattle.model.specs.Used.{isUsed}
+use Rattle.model.specs.Check.{allBelow, isState, cut, tooMany, outOfRange, notBelow, repeated, rowGround, acceptingGround, limitGround, stateGround, checkWithin, countLimit, checkOutcome, Passes}
 use Rattle.model.specs.Card.{EntriesFew}
 use Rattle.model.proofs.Choice.{if-no, if-result, if-zero, or-false, and-true, not-both, no-fault, no-fault-back, any-false}
 use Rattle.model.proofs.Good.{AllBelow, below-none, below-cons, pigeon, Good, Within}
+use Rattle.model.proofs.Used.{used-state}
 use Rattle.model.proofs.Rows.{args-length, rowsOf-length, rowsOf-at, pack-rowsOf, rowIs-yes}
 
 -- ---- no ground
@@ -165,12 +167,32 @@ entry-good states accepting i e =
       fresh = λ j l. eqb-false (stateAt accepting j) (stateAt accepting i) (any-false i (λ j. eqb (stateAt accepting j) (stateAt accepting i)) (b .1) j l);
     }
 
-pub state-good : (limit : ℕ) (T : Table) (q : ℕ) → stateGround limit T q ≡ 0 → (count T q ≤ limit) × (longest T q ≤ 4096)
-unfolding stateGround
-state-good limit T q e =
+pub limit-good : (limit : ℕ) (T : Table) (q : ℕ) → limitGround limit T q ≡ 0 → (count T q ≤ limit) × (longest T q ≤ 4096)
+unfolding limitGround
+limit-good limit T q e =
     let a = if-zero (ltb limit (count T q)) 8 _ e in
     let b = if-zero (ltb 4096 (longest T q)) 9 _ (a .1) in
     (ltb-false limit (count T q) (a .0), ltb-false 4096 (longest T q) (b .0))
+
+-- a used state is held to the limits, an unused one is not
+pub ground-used : (limit : ℕ) (T : Table) (q : ℕ) → isUsed T q ≡ true → stateGround limit T q ≡ limitGround limit T q
+unfolding stateGround
+ground-used limit T q u = rw u
+
+pub ground-unused : (limit : ℕ) (T : Table) (q : ℕ) → isUsed T q ≡ false → stateGround limit T q ≡ 0
+unfolding stateGround
+ground-unused limit T q u = rw u
+
+-- where no limit is passed no ground holds, used or not
+pub ground-clear : (limit : ℕ) (T : Table) (q : ℕ) → limitGround limit T q ≡ 0 → stateGround limit T q ≡ 0
+ground-clear limit T q e = go (isUsed T q) refl
+  where
+    go : (b : Bool) → isUsed T q ≡ b → stateGround limit T q ≡ 0
+    go true u = ground-used limit T q u ∙ e
+    go false u = ground-unused limit T q u
+
+pub state-good : (limit : ℕ) (T : Table) (q : ℕ) → isUsed T q ≡ true → stateGround limit T q ≡ 0 → (count T q ≤ limit) × (longest T q ≤ 4096)
+state-good limit T q u e = limit-good limit T q (sym (ground-used limit T q u) ∙ e)
 
 -- ---- a table that passes
 
@@ -257,11 +279,14 @@ module _ (limit states : ℕ) (rows accepting : List ℕ) (g : NoGround limit st
         few-states = g .few-states;
         few-rows = few (decLe (howManyRows rows) 1024);
         few-args = λ i l. args i (rw (rowsOf-length rows) at l);
-        small-counts = λ q l. state-good limit (tableOf states rows accepting) q (g .good-states q l) .0;
-        small-trees = λ q l. state-good limit (tableOf states rows accepting) q (g .good-states q l) .1;
+        small-counts = λ q u. state-good limit T q u (g .good-states q (used-state T q u)) .0;
+        small-trees = λ q u. state-good limit T q u (g .good-states q (used-state T q u)) .1;
         small-total = g .small-total;
       }
     where
+      T : Table
+      T = tableOf states rows accepting
+
       few : Dec (howManyRows rows ≤ 1024) → length (rowsOf rows) ≤ 1024
       few (yes l) = rw (rowsOf-length rows) l
       few (no l) = absurd (omega (arith, checked-row 1024 (lt-of-not-le l) .number))

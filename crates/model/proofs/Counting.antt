@@ -6,7 +6,7 @@ use mathlib.Core.List.{List, [], _∷_, map}
 use mathlib.Core.Logic.{_⊎_, inl, inr}
 use native.Mathlib.Omega.{arith}
 use native.Mathlib.Decide.{decLe}
-use native.Mathlib.Nat.{not-suc-le-zero, le-of-suc-le-suc, eq-or-lt-of-le, lt-of-not-le, zero-add}
+use native.Mathlib.Nat.{mul-pos, not-suc-le-zero, le-of-suc-le-suc, eq-or-lt-of-le, lt-of-not-le, zero-add}
 use lib.ListN.{length, getD, take, length-append, List·getD-append, List·getD-eq-default}
 use lib.Seq.{getD-at}
 use lib.Dec.{eqb, ltb}
@@ -77,6 +77,12 @@ factors-pos (suc a) zero h l = (omega arith, omega arith)
 factors-pos (suc a) (suc b) h l = (omega arith, omega arith)
 
 -- ---- the largest
+
+-- numbers above 0 have a product above 0
+pub factors-some : (c : ℕ → ℕ) (xs : List ℕ) → ((j : ℕ) → j < length xs → 0 < c (getD xs j 0)) → 0 < product (map c xs)
+unfolding product
+factors-some c [] h = omega arith
+factors-some c (x ∷ xs) h = mul-pos (h 0 (omega arith)) (factors-some c xs (λ j l. h (suc j) (omega arith)))
 
 pub largest-take-suc : (xs : List ℕ) (i : ℕ) → largest (take (suc i) xs) ≡ max (largest (take i xs)) (getD xs i 0)
 unfolding largest
@@ -228,6 +234,11 @@ pub longest-eqn : (T : Table) → Ordered (T .rows) → (q : ℕ) → q < T .sta
 unfolding longest
 longest-eqn T o q l =
     grow-eqn (stateLongest (T .rows) (count T)) (λ c d a e. stateLongest-local (T .rows) o (count T) (count T) c d a (λ b lb. refl) e) (T .states) q l
+
+-- what is no state counts 0, and has no longest tree
+pub count-beyond : (T : Table) (q : ℕ) → T .states ≤ q → count T q ≡ 0
+unfolding count
+count-beyond T q l = List·getD-eq-default (grow (stateCounts (T .rows)) (T .states)) 0 (omega (arith, grow-length (stateCounts (T .rows)) (T .states)))
 
 pub longest-beyond : (T : Table) (q : ℕ) → T .states ≤ q → longest T q ≡ 0
 unfolding longest

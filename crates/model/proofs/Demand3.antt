@@ -27,6 +27,7 @@ use Rattle.model.proofs.Good.{Sound, Good, Within}
 use Rattle.model.proofs.Checked.{NoGround, passes-just, checked-good, checked-within}
 use Rattle.model.proofs.Counting.{count-counts, total-is}
 use Rattle.model.proofs.Reaching.{row-symbol}
+use Rattle.model.proofs.Used.{accepted-used}
 use Rattle.model.proofs.Longest.{forest-most}
 use Rattle.model.proofs.Serial.{serial-same}
 use Rattle.model.proofs.Entries.{tree-of, tree-from, tree-serial, tree-then-taken, tree-then-back}
@@ -48,7 +49,7 @@ accepted-well {T} {t} g a = record { tree = t; symbols = reach-symbols g (a .rea
 -- and has at most 4,096 entries
 pub accepted-short : {limit : ℕ} {T : Table} {t : Tree} → Good T → Within limit T → Accepted T t → length (serial t) ≤ 4096
 unfolding serial sum
-accepted-short {T} g w a = omega (arith, forest-most T g (a .reaches), w .small-trees (getD (T .accepting) (a .entry) 0) (g .sound .listed (a .entry) (a .listed)))
+accepted-short {T} g w a = omega (arith, forest-most T g (a .reaches), w .small-trees (getD (T .accepting) (a .entry) 0) (accepted-used T g a))
 
 -- the same list is the same accepted tree
 pub accepted-same : {T : Table} {t u : Tree} → Sound T → Accepted T t → Accepted T u → serial t ≡ serial u → t ≡ u

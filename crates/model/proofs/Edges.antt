@@ -7,7 +7,9 @@ use Rattle.model.specs.Answers.{Outcome, result, refused}
 use Rattle.model.specs.Choice.{refuseOn, firstFaulty, anyBelow}
 use Rattle.model.specs.Table.{rowStart, howMany, howManyRows, firstRows, rowsOf, tableOf, sameBy, rowIs}
 use Rattle.model.specs.Count.{sum, product, weight, stateCounts, grow, count, total, largest, rowLongest, stateLongest, longest}
-use Rattle.model.specs.Check.{allBelow, cut, tooMany, outOfRange, notBelow, repeated, rowGround, acceptingGround, stateGround, checkWithin, checkOutcome}
+use Rattle.model.specs.Reach.{entryOf}
+use Rattle.model.specs.Used.{stateUsed, growDown, isUsed}
+use Rattle.model.specs.Check.{allBelow, cut, tooMany, outOfRange, notBelow, repeated, rowGround, acceptingGround, limitGround, stateGround, checkWithin, checkOutcome}
 
 -- a table; what its states 0 to 3 are to count, the entries of their longest trees, and the answer due
 data Edge : Type 0 where
@@ -62,5 +64,5 @@ edges =
     ∷ []
 
 edges-hold : map given edges ≡ map due edges
-unfolding power two below-above even lengths edges checkOutcome checkWithin firstFaulty refuseOn anyBelow rowStart howMany howManyRows firstRows rowsOf sameBy rowIs sum product weight stateCounts grow count total largest rowLongest stateLongest longest allBelow cut tooMany outOfRange notBelow repeated rowGround acceptingGround stateGround
+unfolding power two below-above even lengths edges checkOutcome checkWithin firstFaulty refuseOn anyBelow rowStart howMany howManyRows firstRows rowsOf sameBy rowIs sum product weight stateCounts grow count total largest rowLongest stateLongest longest allBelow cut tooMany outOfRange notBelow repeated rowGround acceptingGround limitGround stateGround entryOf stateUsed growDown isUsed
 edges-hold = refl

@@ -12,6 +12,7 @@ use borrow.Author.Tests.{eqb-true, eqb-false}
 use Rattle.model.specs.Choice.{if_then_else_}
 use Rattle.model.specs.Table.{Row, Table, noRow}
 use Rattle.model.specs.Count.{count, total, longest}
+use Rattle.model.specs.Used.{isUsed}
 
 -- every entry is below n
 abbrev pub AllBelow : ℕ → List ℕ → Type 0
@@ -91,11 +92,11 @@ pub record Good (T : Table) : Type 0 where
   pub sound : Sound T
   pub ordered : Ordered (T .rows)
 
--- a table within document 01's limits, and with counts and a total up to a limit
+-- a table within document 01's limits, with counts of used states and a total up to a limit
 pub record Within (limit : ℕ) (T : Table) : Type 0 where
   pub few-states : T .states ≤ 256
   pub few-rows : length (T .rows) ≤ 1024
   pub few-args : (i : ℕ) → i < length (T .rows) → length (getD (T .rows) i noRow .args) ≤ 16
-  pub small-counts : (q : ℕ) → q < T .states → count T q ≤ limit
-  pub small-trees : (q : ℕ) → q < T .states → longest T q ≤ 4096
+  pub small-counts : (q : ℕ) → isUsed T q ≡ true → count T q ≤ limit
+  pub small-trees : (q : ℕ) → isUsed T q ≡ true → longest T q ≤ 4096
   pub small-total : total T ≤ limit

@@ -15,12 +15,17 @@ pub mod Paper
 pub mod Serial
 pub mod States
 pub mod Values
+pub mod Used
+pub mod UsedPass
+pub mod UsedKept
+pub mod UsedValues
 pub mod Pairing
 pub mod Limits
 pub mod CheckRefusals
 pub mod Stuck
 pub mod Entries
 pub mod Demand3
+pub mod HalfDrawn
 pub mod Bytes
 pub mod Alike
 pub mod Scan

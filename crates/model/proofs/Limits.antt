@@ -15,13 +15,15 @@ use Rattle.model.specs.Tree.{Tree, serial}
 use Rattle.model.specs.Reach.{Reaches, Accepted}
 use Rattle.model.specs.Count.{sum, Counts, count, total, longest}
 use Rattle.model.specs.Order.{Exactly}
+use Rattle.model.specs.Used.{Used, isUsed}
 use Rattle.model.specs.Entries.{noTree}
-use Rattle.model.specs.Check.{stateGround, countLimit}
+use Rattle.model.specs.Check.{limitGround, stateGround, countLimit}
 use Rattle.model.specs.Limits.{ReachedBy, WithinLimits, BeyondLimits, nine, ten}
 use Rattle.model.proofs.Good.{Sound, Good}
 use Rattle.model.proofs.Counting.{count-counts, total-is}
-use Rattle.model.proofs.Checked.{state-good}
+use Rattle.model.proofs.Checked.{state-good, ground-used, ground-unused}
 use Rattle.model.proofs.Longest.{forest-most, longest-none, longest-tree}
+use Rattle.model.proofs.Used.{used-exactly, used-state}
 use Rattle.model.proofs.Exactly.{exactly-map}
 use Rattle.model.proofs.Pairing.{all-counted}
 
@@ -68,14 +70,15 @@ module _ (T : Table) (good : Good T) where
   unfolding serial sum
   tree-most t q r = omega (arith, forest-most T good r)
 
-  pub within-limits : (q : ℕ) → q < T .states → stateGround countLimit T q ≡ 0 → WithinLimits T q
-  within-limits q l e =
-      let s = state-good countLimit T q e in
-      record { many = count T q; reached = state-counted q l; few = s .0; short = λ t r. omega (arith, tree-most t q r, s .1) }
+  pub within-limits : (q : ℕ) → Used T q → stateGround countLimit T q ≡ 0 → WithinLimits T q
+  within-limits q h e =
+      let u = used-exactly T good q .1 h in
+      let s = state-good countLimit T q u e in
+      record { many = count T q; reached = state-counted q (used-state T q u); few = s .0; short = λ t r. omega (arith, tree-most t q r, s .1) }
 
-  pub beyond-limits : (q : ℕ) → q < T .states → 0 < stateGround countLimit T q → BeyondLimits T q (stateGround countLimit T q)
-  unfolding stateGround
-  beyond-limits q l = go (ltb countLimit (count T q)) (ltb 4096 (longest T q)) (ltb-true countLimit (count T q)) (ltb-false countLimit (count T q)) (ltb-true 4096 (longest T q))
+  beyond-limit : (q : ℕ) → q < T .states → 0 < limitGround countLimit T q → BeyondLimits T q (limitGround countLimit T q)
+  unfolding limitGround
+  beyond-limit q l = go (ltb countLimit (count T q)) (ltb 4096 (longest T q)) (ltb-true countLimit (count T q)) (ltb-false countLimit (count T q)) (ltb-true 4096 (longest T q))
     where
       long : count T q ≤ countLimit → 4096 < longest T q → (count T q ≡ 0) ⊎ (0 < count T q) → BeyondLimits T q 10
       long f m (inl z) = absurd (omega (arith, longest-none T good q z))
@@ -88,6 +91,15 @@ module _ (T : Table) (good : Good T) where
       go true d x y z p = nine refl (count T q) (state-counted q l) (x refl)
       go false true x y z p = long (y refl) (z refl) (eq-zero-or-pos (count T q))
       go false false x y z p = absurd (omega arith)
+
+  pub beyond-limits : (q : ℕ) → q < T .states → 0 < stateGround countLimit T q → Used T q × BeyondLimits T q (stateGround countLimit T q)
+  beyond-limits q l p = go (isUsed T q) refl
+    where
+      go : (b : Bool) → isUsed T q ≡ b → Used T q × BeyondLimits T q (stateGround countLimit T q)
+      go true u =
+          let e = ground-used countLimit T q u in
+          (used-exactly T good q .0 u, subst (BeyondLimits T q) (sym e) (beyond-limit q l (subst (λ (g : ℕ). 0 < g) e p)))
+      go false u = absurd (omega (arith, ground-unused countLimit T q u))
 
   -- the total counts the accepted trees
   pub total-counted : Exactly (Accepted T) (total T)

@@ -12,7 +12,8 @@ use Rattle.model.specs.Tree.{serialForest, serial}
 use Rattle.model.specs.Reach.{rowWith, statesOf, entryOf}
 use Rattle.model.specs.Count.{sum, product, weight, stateCounts, grow, count, total, largest, rowLongest, stateLongest, longest}
 use Rattle.model.specs.Value.{findBy, childrenFrom, treeIn, treeOf}
-use Rattle.model.specs.Check.{allBelow, cut, tooMany, outOfRange, notBelow, repeated, rowGround, acceptingGround, stateGround, checkWithin, checkOutcome}
+use Rattle.model.specs.Used.{stateUsed, growDown, isUsed}
+use Rattle.model.specs.Check.{allBelow, cut, tooMany, outOfRange, notBelow, repeated, rowGround, acceptingGround, limitGround, stateGround, checkWithin, checkOutcome}
 use Rattle.model.specs.Names.{isLetter, isNameByte, allNameBytes, isName, nameOf, lower, alike, linesOf, lineWith, symbolOf, isListed, lineGround, namesThen}
 use Rattle.model.specs.Entries.{openAfter, entryGround, endsTooSoon, formThen, treeThen, levelsOf, treeFrom}
 use Rattle.model.specs.Term.{textOfTerms, textOf, step, scan, termThen, run, nameBegins, before, seenFrom, termFrom}
@@ -50,7 +51,7 @@ abbrev table : (states : ℕ) (rows accepting : List ℕ) → LentTable
 table states rows accepting = record { states = states; rows = rows; accepting = accepting }
 
 check-made : Each (CanBeMade checking) checkNumbers
-unfolding power two below-above even lengths leaf checkOutcome checkWithin firstFaulty refuseOn anyBelow rowStart howMany howManyRows firstRows rowsOf sameBy rowIs sum product weight stateCounts grow count total largest rowLongest stateLongest longest allBelow cut tooMany outOfRange notBelow repeated rowGround acceptingGround stateGround
+unfolding power two below-above even lengths leaf checkOutcome checkWithin firstFaulty refuseOn anyBelow rowStart howMany howManyRows firstRows rowsOf sameBy rowIs sum product weight stateCounts grow count total largest rowLongest stateLongest longest allBelow cut tooMany outOfRange notBelow repeated rowGround acceptingGround limitGround stateGround entryOf stateUsed growDown isUsed
 check-made =
     -- 1 to 7
     (table 257 [] [], refl, 0, refl)
@@ -61,8 +62,8 @@ check-made =
     also (table 1 (leaf ++ leaf) [], refl, 1, refl)
     also (table 0 [] (0 ∷ []), refl, 0, refl)
     -- 9 to 11: "two with 65,536"; "one leaf more"; 4,294,967,295 trees and two
-    also (table 3 (even ++ row 5 2 (1 ∷ 1 ∷ [])) [], refl, 2, refl)
-    also (table 4 (lengths ++ row 1 3 (replicate 7 2 ++ replicate 8 1 ++ 0 ∷ [])) [], refl, 3, refl)
+    also (table 3 (even ++ row 5 2 (1 ∷ 1 ∷ [])) (2 ∷ []), refl, 2, refl)
+    also (table 4 (lengths ++ row 1 3 (replicate 7 2 ++ replicate 8 1 ++ 0 ∷ [])) (3 ∷ []), refl, 3, refl)
     also (table 4 (below-above ++ row 5 3 (1 ∷ 2 ∷ [])) (3 ∷ 0 ∷ []), refl, 0, refl)
     also all
 
@@ -86,7 +87,7 @@ write-as-check k (T, l, place, e) =
     ((T, 0, 0), and-both _ true (and-both _ true l refl) refl, place, tree-refuses (T .states) (T .rows) (T .accepting) 0 0 k place .1 (treeAsCheck e))
 
 write-made : Each (CanBeMade writing) (cardNumbers writing)
-unfolding leaf checkOutcome checkWithin firstFaulty refuseOn anyBelow rowStart howMany howManyRows firstRows rowsOf sameBy rowIs sum product weight stateCounts grow count total largest rowLongest stateLongest longest allBelow cut tooMany outOfRange notBelow repeated rowGround acceptingGround stateGround serialForest serial findBy childrenFrom treeIn treeOf treeEntries writeTree writeOutcome
+unfolding leaf checkOutcome checkWithin firstFaulty refuseOn anyBelow rowStart howMany howManyRows firstRows rowsOf sameBy rowIs sum product weight stateCounts grow count total largest rowLongest stateLongest longest allBelow cut tooMany outOfRange notBelow repeated rowGround acceptingGround limitGround stateGround entryOf stateUsed growDown isUsed serialForest serial findBy childrenFrom treeIn treeOf treeEntries writeTree writeOutcome
 write-made =
     then-each write-as-check check-made
     (((table 0 [] [], 0, 0), refl, 0, refl)

@@ -9,7 +9,9 @@ use Rattle.model.specs.Count.{sum, product, weight, stateCounts, grow, c
 use Rattle.model.specs.Names.{linesOf}
 use Rattle.model.specs.Text.{ascii}
 use Rattle.model.specs.Paper.{paperStates, paperRowList, paperRows, paperAccepting, paperNames}
-use Rattle.model.specs.Check.{allBelow, cut, tooMany, outOfRange, notBelow, repeated, rowGround, acceptingGround, stateGround, checkWithin, checkOutcome}
+use Rattle.model.specs.Reach.{entryOf}
+use Rattle.model.specs.Used.{stateUsed, growDown, isUsed}
+use Rattle.model.specs.Check.{allBelow, cut, tooMany, outOfRange, notBelow, repeated, rowGround, acceptingGround, limitGround, stateGround, checkWithin, checkOutcome}
 
 -- "Symbol 1 is `a`, symbol 2 is `b`": these lines and no other
 pub paper-names : linesOf paperNames ≡ record { bytes = ascii "a"; ended = true } ∷ record { bytes = ascii "b"; ended = true } ∷ []
@@ -23,5 +25,5 @@ paper-counts = refl
 
 -- "the total is 12"
 pub paper-checks : checkOutcome paperStates paperRows paperAccepting ≡ result 12
-unfolding checkOutcome checkWithin firstFaulty refuseOn anyBelow rowStart howMany howManyRows firstRows rowsOf sameBy rowIs sum product weight stateCounts grow count total largest rowLongest stateLongest longest allBelow cut tooMany outOfRange notBelow repeated rowGround acceptingGround stateGround paperRowList flatten paperRows
+unfolding checkOutcome checkWithin firstFaulty refuseOn anyBelow rowStart howMany howManyRows firstRows rowsOf sameBy rowIs sum product weight stateCounts grow count total largest rowLongest stateLongest longest allBelow cut tooMany outOfRange notBelow repeated rowGround acceptingGround limitGround stateGround entryOf stateUsed growDown isUsed paperRowList flatten paperRows
 paper-checks = refl

@@ -1,7 +1,7 @@
 -- Every good table within the limits passes its check: with Checked, the check takes just these tables.
 use Prim.Native.Nat.{ℕ, _-_, _≤_, _<_}
 use mathlib.Core.Path.{_≡_, refl, ap, sym, subst, _∙_}
-use mathlib.Core.Bool.{true, false}
+use mathlib.Core.Bool.{Bool, true, false}
 use mathlib.Core.List.{List, [], _∷_}
 use mathlib.Core.Logic.{_↔_}
 use native.Mathlib.Omega.{arith}
@@ -11,11 +11,12 @@ use borrow.Author.Tests.{lt-ltb, le-ltb, lt-leb, ne-eqb}
 use Rattle.model.specs.Answers.{result}
 use Rattle.model.specs.Table.{Row, Table, noRow, pack, argCountAt, rowStart, rowNumbered, howManyRows, rowsOf, rowIs, howManyEntries, stateAt, tableOf, Whole}
 use Rattle.model.specs.Count.{count, total, longest}
-use Rattle.model.specs.Check.{allBelow, cut, tooMany, outOfRange, notBelow, repeated, rowGround, acceptingGround, stateGround, checkWithin}
+use Rattle.model.specs.Used.{isUsed}
+use Rattle.model.specs.Check.{allBelow, cut, tooMany, outOfRange, notBelow, repeated, rowGround, acceptingGround, limitGround, stateGround, checkWithin}
 use Rattle.model.proofs.Choice.{or-none, and-both, is-false, any-none}
 use Rattle.model.proofs.Good.{AllBelow, below-first, below-rest, Good, Within}
 use Rattle.model.proofs.Rows.{args-length, rowsOf-length, rowsOf-at, rowsOf-pack, pack-whole, rowIs-true}
-use Rattle.model.proofs.Checked.{NoGround, passes, passed, checked-good, checked-within, checked-packed, InRange, GoodRow, GoodEntry, states-length, states-at}
+use Rattle.model.proofs.Checked.{NoGround, passes, passed, checked-good, checked-within, checked-packed, InRange, GoodRow, GoodEntry, states-length, states-at, ground-used, ground-unused}
 
 -- ---- the tests do not hold
 
@@ -75,9 +76,16 @@ entry-ground states accepting i g =
       any-none i (λ j. eqb (stateAt accepting j) (stateAt accepting i)) (λ j m. ne-eqb (stateAt accepting j) (stateAt accepting i) (g .fresh j m)),
     )
 
-pub state-ground : (limit : ℕ) (T : Table) (q : ℕ) → count T q ≤ limit → longest T q ≤ 4096 → stateGround limit T q ≡ 0
-unfolding stateGround
-state-ground limit T q l m = rw (le-ltb limit (count T q) l, le-ltb 4096 (longest T q) m)
+pub limit-ground : (limit : ℕ) (T : Table) (q : ℕ) → count T q ≤ limit → longest T q ≤ 4096 → limitGround limit T q ≡ 0
+unfolding limitGround
+limit-ground limit T q l m = rw (le-ltb limit (count T q) l, le-ltb 4096 (longest T q) m)
+
+pub state-ground : (limit : ℕ) (T : Table) (q : ℕ) → (isUsed T q ≡ true → (count T q ≤ limit) × (longest T q ≤ 4096)) → stateGround limit T q ≡ 0
+state-ground limit T q h = go (isUsed T q) refl
+  where
+    go : (b : Bool) → isUsed T q ≡ b → stateGround limit T q ≡ 0
+    go true u = let s = h u in ground-used limit T q u ∙ limit-ground limit T q (s .0) (s .1)
+    go false u = ground-unused limit T q u
 
 -- ---- a good table within the limits
 
@@ -140,7 +148,7 @@ module _ (limit states : ℕ) (rows accepting : List ℕ) where
         few-states = f .within .few-states;
         good-rows = λ i l. row-ground states rows i (fine-row f i l);
         good-entries = λ i l. entry-ground states accepting i (fine-entry f i l);
-        good-states = λ q l. state-ground limit (tableOf states rows accepting) q (f .within .small-counts q l) (f .within .small-trees q l);
+        good-states = λ q l. state-ground limit (tableOf states rows accepting) q (λ u. (f .within .small-counts q u, f .within .small-trees q u));
         small-total = f .within .small-total;
       }
 

@@ -15,7 +15,8 @@ use Rattle.model.specs.Tree.{serialForest, serial}
 use Rattle.model.specs.Reach.{rowWith, statesOf, entryOf}
 use Rattle.model.specs.Count.{sum, product, weight, stateCounts, grow, count, total, largest, rowLongest, stateLongest, longest}
 use Rattle.model.specs.Value.{horner, earlierRows, rowValue, valuesOf, numberOf, findBy, childrenFrom, treeIn, treeOf}
-use Rattle.model.specs.Check.{allBelow, cut, tooMany, outOfRange, notBelow, repeated, rowGround, acceptingGround, stateGround, checkWithin, checkOutcome}
+use Rattle.model.specs.Used.{stateUsed, growDown, isUsed}
+use Rattle.model.specs.Check.{allBelow, cut, tooMany, outOfRange, notBelow, repeated, rowGround, acceptingGround, limitGround, stateGround, checkWithin, checkOutcome}
 use Rattle.model.specs.Entries.{openAfter, entryGround, endsTooSoon, formThen, treeThen, levelsOf, treeFrom}
 use Rattle.model.specs.Number.{reachesNone, stuckThen, acceptedThen, numberTree, numberOutcome}
 use Rattle.model.specs.Write.{treeEntries, writeTree, writeTreeList, entriesFor, writeOutcome, writeList}
@@ -84,7 +85,7 @@ checked =
     ∷ []
 
 checked-hold : map given checked ≡ map due checked
-unfolding leaf checked checkOutcome checkWithin firstFaulty refuseOn anyBelow rowStart howMany howManyRows firstRows rowsOf sameBy rowIs sum product weight stateCounts grow count total largest rowLongest stateLongest longest allBelow cut tooMany outOfRange notBelow repeated rowGround acceptingGround stateGround
+unfolding leaf checked checkOutcome checkWithin firstFaulty refuseOn anyBelow rowStart howMany howManyRows firstRows rowsOf sameBy rowIs sum product weight stateCounts grow count total largest rowLongest stateLongest longest allBelow cut tooMany outOfRange notBelow repeated rowGround acceptingGround limitGround stateGround entryOf stateUsed growDown isUsed
 checked-hold = refl
 
 -- 3: row 1,023 is the 1,024th
@@ -96,14 +97,31 @@ rows-hold = refl
 both : List ℕ
 both = lengths ++ row 2 3 [] ++ row 3 3 [] ++ row 3 4 (replicate 16 3)
 
+-- `below-above`, then 4,294,967,296 trees in state 3
+big : List ℕ
+big = below-above ++ row 5 3 (1 ∷ 2 ∷ []) ++ row 6 3 []
+
 limits : List Example
 limits =
-    -- 9: a state's sum decides, and not one row; of a state that no accepted tree uses too
-    checks 4 (below-above ++ row 5 3 (1 ∷ 2 ∷ []) ++ row 6 3 []) [] (refused 9 3)
+    -- 9: a state's sum decides, and not one row
+    checks 4 big (3 ∷ []) (refused 9 3)
+    -- "Only used states are held to the limits": the same table where no accepted tree has a tree of state 3, and a state that counts 2 ^ 256
+    ∷ checks 4 big [] (result 0)
+    ∷ checks 4 big (1 ∷ []) (result 65535)
+    ∷ checks 3 (even ++ row 5 2 (replicate 16 1)) (1 ∷ []) (result 65536)
+    -- used as an argument; state 4 is empty: the row that names state 3 beside it counts 0, and being listed is not enough
+    ∷ checks 5 (big ++ row 7 4 (3 ∷ [])) (4 ∷ []) (refused 9 3)
+    ∷ checks 6 (big ++ row 7 5 (3 ∷ 4 ∷ [])) (0 ∷ 5 ∷ 4 ∷ []) (result 2)
+    -- a row above an unused state makes none used
+    ∷ checks 6 (big ++ row 7 4 (3 ∷ []) ++ row 7 5 (4 ∷ [])) (2 ∷ []) (result 65537)
     -- before 10 within a state; the first faulty state decides
     ∷ checks 6 (both ++ row 5 5 (4 ∷ 4 ∷ []) ++ row 5 5 (replicate 8 2)) (5 ∷ []) (refused 9 5)
-    ∷ checks 7 (both ++ row 5 5 (replicate 8 2) ++ row 5 6 (4 ∷ 4 ∷ [])) (6 ∷ []) (refused 10 5)
-    ∷ checks 7 (both ++ row 5 5 (4 ∷ 4 ∷ []) ++ row 5 6 (replicate 8 2)) (6 ∷ []) (refused 9 5)
+    ∷ checks 7 (both ++ row 5 5 (replicate 8 2) ++ row 5 6 (4 ∷ 4 ∷ [])) (6 ∷ 5 ∷ []) (refused 10 5)
+    ∷ checks 7 (both ++ row 5 5 (4 ∷ 4 ∷ []) ++ row 5 6 (replicate 8 2)) (6 ∷ 5 ∷ []) (refused 9 5)
+    -- of those that are used
+    ∷ checks 7 (both ++ row 5 5 (replicate 8 2) ++ row 5 6 (4 ∷ 4 ∷ [])) (6 ∷ []) (refused 9 6)
+    ∷ checks 7 (both ++ row 5 5 (4 ∷ 4 ∷ []) ++ row 5 6 (replicate 8 2)) (6 ∷ []) (refused 10 6)
+    ∷ checks 6 (both ++ row 5 5 (replicate 8 2)) (2 ∷ []) (result 1)
     -- 10: a row that counts 0 has no longest tree
     ∷ checks 7 (both ++ row 5 6 (5 ∷ replicate 8 2)) (6 ∷ []) (result 0)
     -- 11; 7 comes before 9
@@ -112,7 +130,7 @@ limits =
     ∷ []
 
 limits-hold : map given limits ≡ map due limits
-unfolding power two below-above even lengths both limits checkOutcome checkWithin firstFaulty refuseOn anyBelow rowStart howMany howManyRows firstRows rowsOf sameBy rowIs sum product weight stateCounts grow count total largest rowLongest stateLongest longest allBelow cut tooMany outOfRange notBelow repeated rowGround acceptingGround stateGround
+unfolding power two below-above even lengths both big limits checkOutcome checkWithin firstFaulty refuseOn anyBelow rowStart howMany howManyRows firstRows rowsOf sameBy rowIs sum product weight stateCounts grow count total largest rowLongest stateLongest longest allBelow cut tooMany outOfRange notBelow repeated rowGround acceptingGround limitGround stateGround entryOf stateUsed growDown isUsed
 limits-hold = refl
 
 -- a leaf in state 0; in state 1 a node with one leaf, and one with two; state 2 is reached by a node of those, and is not listed
@@ -131,7 +149,7 @@ numbered =
     -- the check's refusals come first
     ∷ numbers 257 [] [] (256 ∷ []) (refused 1 0)
     ∷ numbers 1 (leaf ++ 1 ∷ []) [] (replicate 4097 1) (refused 2 1)
-    ∷ numbers 3 (even ++ row 5 2 (1 ∷ 1 ∷ [])) [] [] (refused 9 2)
+    ∷ numbers 3 (even ++ row 5 2 (1 ∷ 1 ∷ [])) (2 ∷ []) [] (refused 9 2)
     -- 12: before 13, and of a tree too
     ∷ numbers 1 leaf (0 ∷ []) (replicate 4097 0) (refused 12 0)
     ∷ numbers 1 leaf (0 ∷ []) (replicate 4096 0) (refused 13 0)
@@ -152,10 +170,12 @@ numbered =
     ∷ numbers 3 small (1 ∷ []) (2 ∷ 1 ∷ 0 ∷ 1 ∷ 0 ∷ 1 ∷ 0 ∷ 0 ∷ []) (refused 14 7)
     ∷ numbers 3 small (1 ∷ []) (1 ∷ 0 ∷ []) (refused 14 1)
     ∷ numbers 3 small (1 ∷ []) (3 ∷ 2 ∷ 1 ∷ 0 ∷ 0 ∷ 2 ∷ 1 ∷ 0 ∷ 0 ∷ 0 ∷ []) (refused 14 9)
+    -- a subtree that reaches an unused state is not the one that decides
+    ∷ numbers 3 small (1 ∷ []) (9 ∷ 3 ∷ 2 ∷ 1 ∷ 0 ∷ 0 ∷ 2 ∷ 1 ∷ 0 ∷ 0 ∷ 0 ∷ 9 ∷ 0 ∷ 0 ∷ []) (refused 14 12)
     ∷ []
 
 numbered-hold : map given numbered ≡ map due numbered
-unfolding power two even leaf small numbered checkOutcome checkWithin firstFaulty refuseOn anyBelow rowStart howMany howManyRows firstRows rowsOf sameBy rowIs sum product weight stateCounts grow count total largest rowLongest stateLongest longest allBelow cut tooMany outOfRange notBelow repeated rowGround acceptingGround stateGround serialForest serial rowWith statesOf entryOf horner earlierRows rowValue valuesOf numberOf openAfter entryGround endsTooSoon formThen treeThen levelsOf treeFrom reachesNone stuckThen acceptedThen numberTree numberOutcome
+unfolding power two even leaf small numbered checkOutcome checkWithin firstFaulty refuseOn anyBelow rowStart howMany howManyRows firstRows rowsOf sameBy rowIs sum product weight stateCounts grow count total largest rowLongest stateLongest longest allBelow cut tooMany outOfRange notBelow repeated rowGround acceptingGround limitGround stateGround stateUsed growDown isUsed serialForest serial rowWith statesOf entryOf horner earlierRows rowValue valuesOf numberOf openAfter entryGround endsTooSoon formThen treeThen levelsOf treeFrom reachesNone stuckThen acceptedThen numberTree numberOutcome
 numbered-hold = refl
 
 written : List Example
@@ -175,7 +195,7 @@ written =
     ∷ []
 
 written-hold : map given written ≡ map due written
-unfolding leaf small written checkOutcome checkWithin firstFaulty refuseOn anyBelow rowStart howMany howManyRows firstRows rowsOf sameBy rowIs sum product weight stateCounts grow count total largest rowLongest stateLongest longest allBelow cut tooMany outOfRange notBelow repeated rowGround acceptingGround stateGround serialForest serial findBy childrenFrom treeIn treeOf treeEntries writeTree writeTreeList entriesFor writeOutcome writeList
+unfolding leaf small written checkOutcome checkWithin firstFaulty refuseOn anyBelow rowStart howMany howManyRows firstRows rowsOf sameBy rowIs sum product weight stateCounts grow count total largest rowLongest stateLongest longest allBelow cut tooMany outOfRange notBelow repeated rowGround acceptingGround limitGround stateGround entryOf stateUsed growDown isUsed serialForest serial findBy childrenFrom treeIn treeOf treeEntries writeTree writeTreeList entriesFor writeOutcome writeList
 written-hold = refl
 
 -- ---- "A list that is no tree can open more": nodes that are opened and not closed, up to 4,096 of them

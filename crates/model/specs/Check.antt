@@ -9,6 +9,7 @@ use Rattle.model.specs.Answers.{Outcome, result, refused}
 use Rattle.model.specs.Choice.{if_then_else_, firstFaulty, anyBelow}
 use Rattle.model.specs.Table.{Row, Table, rowStart, howManyRows, rowNumbered, argCountAt, rowIs, howManyEntries, stateAt, tableOf}
 use Rattle.model.specs.Count.{count, total, longest}
+use Rattle.model.specs.Used.{isUsed}
 
 -- every one of the numbers is below n
 unfoldable pub allBelow : ℕ → List ℕ → Bool
@@ -54,10 +55,14 @@ acceptingGround states accepting i =
     if not (isState states (stateAt accepting i)) || anyBelow i (λ j. eqb (stateAt accepting j) (stateAt accepting i)) then 7 else 0
 
 -- "for each, a count above 4,294,967,295 is 9, and after that a longest tree above 4,096 entries is 10"
-unfoldable pub stateGround : (limit : ℕ) → Table → ℕ → ℕ
-stateGround limit T q =
+unfoldable pub limitGround : (limit : ℕ) → Table → ℕ → ℕ
+limitGround limit T q =
     if ltb limit (count T q) then 9 else
     if ltb 4096 (longest T q) then 10 else 0
+
+-- "Only used states are held to the limits on count and longest tree"; "9 and 10 speak of used states only, in their old places." (document 02, c)
+unfoldable pub stateGround : (limit : ℕ) → Table → ℕ → ℕ
+stateGround limit T q = if isUsed T q then limitGround limit T q else 0
 
 -- the count of states and the two lists, and what follows where they are without fault
 abbrev pub listsThen : (states : ℕ) (rows accepting : List ℕ) → Outcome → Outcome
@@ -69,13 +74,17 @@ listsThen states rows accepting otherwise =
     -- "Then the accepting list" ("a list longer than the count of states is 8": withdrawn, specs/Card)
     (firstFaulty (howManyEntries accepting) (acceptingGround states accepting) otherwise)
 
--- the rest of the check, 9 to 11, with a limit for counts and the total
-abbrev pub countsOutcome : (limit : ℕ) → Table → Outcome
-countsOutcome limit T =
+-- the rest of the check, 9 to 11, with a limit for the total and a ground for the states
+abbrev pub statesOutcome : (limit : ℕ) → Table → (ground : ℕ → ℕ) → Outcome
+statesOutcome limit T ground =
     -- "Then states are taken in turn from 0, the first faulty state decides, and its number is the place"
-    firstFaulty (T .states) (stateGround limit T)
+    firstFaulty (T .states) ground
     -- "Last, a total above 4,294,967,295 is 11."
     (if ltb limit (total T) then refused 11 0 else result (total T))
+
+-- the same, with the used states held to that limit
+abbrev pub countsOutcome : (limit : ℕ) → Table → Outcome
+countsOutcome limit T = statesOutcome limit T (stateGround limit T)
 
 -- the check with a limit for counts and the total
 unfoldable pub checkWithin : (limit states : ℕ) (rows accepting : List ℕ) → Outcome

@@ -95,8 +95,9 @@ pub data CheckRefused (states : ℕ) (rows accepting : List ℕ) (number place :
   check7 : number ≡ 7 → states ≤ 256 → FaultlessRows states rows → FirstFaultyEntry states accepting place
       → CheckRefused states rows accepting number place
   -- "a list longer than the count of states is 8": withdrawn (specs/Card)
-  -- 9 and 10: "Then states are taken in turn from 0, the first faulty state decides, and its number is the place"
-  check9to10 : states ≤ 256 → FaultlessRows states rows → FaultlessEntries states accepting → place < states → FirstBeyond (tableOf states rows accepting) place number
+  -- 9 and 10: "Then states are taken in turn from 0, the first faulty state decides, and its number is the place"; "9 and 10 speak of used
+  -- states only, in their old places." (document 02, c)
+  check9to10 : states ≤ 256 → FaultlessRows states rows → FaultlessEntries states accepting → FirstBeyond (tableOf states rows accepting) place number
       → CheckRefused states rows accepting number place
   -- "Last, a total above 4,294,967,295 is 11."
   check11 : number ≡ 11 → states ≤ 256 → FaultlessRows states rows → FaultlessEntries states accepting → TotalBeyond (tableOf states rows accepting) place

@@ -88,7 +88,8 @@ module _ (states : ℕ) (rows accepting : List ℕ) where
     pub pairing : Pairing (tableOf states rows accepting) total
     pub answers : AnswersOf total
 
--- demand 3: every table that passes its check pairs off its trees and its numbers (the theorem `demand3`)
+-- demand 3: every table that passes its check pairs off its trees and its numbers (the theorem `demand3`); "The pairing of trees and numbers now
+-- covers these tables too." (document 02, c)
 abbrev pub PairsOff : Type 0
 PairsOff = (states : ℕ) (rows accepting : List ℕ) (n : ℕ) → Passes states rows accepting n → Demand3 states rows accepting n
 

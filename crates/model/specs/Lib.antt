@@ -7,6 +7,7 @@ pub mod Reach
 pub mod Count
 pub mod Value
 pub mod Order
+pub mod Used
 pub mod Check
 pub mod Limits
 pub mod CheckRefusals
@@ -22,6 +23,7 @@ pub mod Number
 pub mod Write
 pub mod Card
 pub mod Demand3
+pub mod HalfDrawn
 pub mod TreeRefusals
 pub mod Text
 pub mod Paper

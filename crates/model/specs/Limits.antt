@@ -7,13 +7,14 @@ use Rattle.model.specs.Table.{Row, Table}
 use Rattle.model.specs.Tree.{Tree, serial}
 use Rattle.model.specs.Reach.{Reaches, Accepted}
 use Rattle.model.specs.Order.{Exactly}
+use Rattle.model.specs.Used.{Used}
 use Rattle.model.specs.Check.{countLimit}
 
 -- exactly this many trees reach the state
 abbrev pub ReachedBy : List Row → (q many : ℕ) → Type 0
 ReachedBy rows q many = Exactly (λ (t : Tree). Reaches rows t q) many
 
--- neither 9 nor 10 holds of the state
+-- the state keeps to both limits
 pub record WithinLimits (T : Table) (q : ℕ) : Type 0 where
   pub many : ℕ
   pub reached : ReachedBy (T .rows) q many
@@ -25,15 +26,18 @@ pub data BeyondLimits (T : Table) (q number : ℕ) : Type 0 where
   nine : number ≡ 9 → (many : ℕ) → ReachedBy (T .rows) q many → countLimit < many → BeyondLimits T q number
   ten : number ≡ 10 → (many : ℕ) → ReachedBy (T .rows) q many → many ≤ countLimit → (t : Tree) → Reaches (T .rows) t q → 4096 < length (serial t) → BeyondLimits T q number
 
--- "Then states are taken in turn from 0, the first faulty state decides, and its number is the place"
+-- "Then states are taken in turn from 0, the first faulty state decides, and its number is the place"; "9 and 10 speak of used states
+-- only, in their old places." (document 02, c)
 pub record FirstBeyond (T : Table) (q number : ℕ) : Type 0 where
-  pub before : (a : ℕ) → a < q → WithinLimits T a
+  pub before : (a : ℕ) → a < q → Used T a → WithinLimits T a
+  pub used : Used T q
   pub here : BeyondLimits T q number
 
 -- "Last, a total above 4,294,967,295 is 11."
 pub record TotalBeyond (T : Table) (place : ℕ) : Type 0 where
   pub zero-place : place ≡ 0
-  pub states : (q : ℕ) → q < T .states → WithinLimits T q
+  -- no used state is beyond the limits
+  pub states : (q : ℕ) → Used T q → WithinLimits T q
   pub many : ℕ
   pub accepted : Exactly (Accepted T) many
   pub beyond : countLimit < many

@@ -3,12 +3,11 @@ use Prim.Native.Nat.{ℕ, suc, _+_, _-_}
 use mathlib.Core.Bool.{Bool, not}
 use mathlib.Core.List.{List}
 use lib.ListN.{length}
-use lib.Dec.{ltb}
 use Rattle.model.specs.Answers.{Outcome, result, refused}
 use Rattle.model.specs.Choice.{if_then_else_}
 use Rattle.model.specs.Table.{Table, tableOf}
 use Rattle.model.specs.Tree.{Forest, Tree, empty, node, only, serialForest, serial}
-use Rattle.model.specs.Reach.{targetOf, rowOf, stateOf, entryOf}
+use Rattle.model.specs.Reach.{targetOf, rowOf, stateOf, isAmong}
 use Rattle.model.specs.Value.{treeNumber}
 use Rattle.model.specs.Check.{isState, checkOutcome}
 use Rattle.model.specs.Entries.{treeThen, treeFrom}
@@ -36,7 +35,7 @@ stuckThen T (node s children right) place otherwise =
 unfoldable pub acceptedThen : Table → Tree → Outcome → Outcome
 acceptedThen T t otherwise =
     stuckThen T (only t) 0
-    (if ltb (entryOf (T .accepting) (stateOf T t)) (length (T .accepting)) then otherwise else refused 14 (length (serial t) - 1))
+    (if isAmong (stateOf T t) (T .accepting) then otherwise else refused 14 (length (serial t) - 1))
 
 -- what numbering a tree of a table answers, where this is what the table's check answers
 unfoldable pub numberTree : (checked : Outcome) → Table → (tree : List ℕ) → Outcome

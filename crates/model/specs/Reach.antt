@@ -2,7 +2,8 @@
 use Prim.Native.Nat.{ℕ, suc, _<_}
 use mathlib.Core.List.{List, [], _∷_}
 use lib.ListN.{length, getD}
-use lib.Dec.{eqb}
+use mathlib.Core.Bool.{Bool}
+use lib.Dec.{eqb, ltb}
 use Rattle.model.specs.Choice.{if_then_else_}
 use Rattle.model.specs.Table.{Row, Table, IsRow, rowIs}
 use Rattle.model.specs.Tree.{Forest, Tree, empty, node, only}
@@ -51,3 +52,7 @@ stateOf T t = targetOf T (rowOf T (t .symbol) (t .children))
 unfoldable pub entryOf : List ℕ → ℕ → ℕ
 entryOf [] q = 0
 entryOf (a ∷ as′) q = if eqb a q then 0 else suc (entryOf as′ q)
+
+-- the state is one of the list's
+abbrev pub isAmong : ℕ → List ℕ → Bool
+isAmong q xs = ltb (entryOf xs q) (length xs)

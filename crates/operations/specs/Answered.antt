@@ -1,6 +1,7 @@
 -- What the operations on a table answer, and what the lent list then holds. Assumes nothing: these are definitions.
 use Prim.Native.Nat.{ℕ}
 use mathlib.Core.Path.{_≡_}
+use mathlib.Core.Bool.{Bool, true, false}
 use mathlib.Core.List.{List}
 use lib.ListN.{length}
 use Rattle.model.specs.Answers.{Outcome, outcome}
@@ -22,6 +23,13 @@ abbrev pub taskList : Task → (states : ℕ) (rows accepting old : List ℕ) �
 taskList Check states rows accepting old = old
 taskList Number states rows accepting old = old
 taskList (Write number) states rows accepting old = writeList states rows accepting number old
+
+-- whether the task needs to know which states are used: "no value is formed in an unused one" (document 02, c), and numbering forms values before it
+-- is known whether the tree is accepted
+abbrev pub taskPrepares : Task → Bool
+taskPrepares Check = false
+taskPrepares Number = true
+taskPrepares (Write number) = false
 
 pub record Answered (task : Task) (states : ℕ) (rows accepting tree old new : List ℕ) (r : Answer) : Type 0 where
   pub answer : outcome r ≡ taskOutcome task states rows accepting tree (length old)

@@ -7,13 +7,24 @@ ghost use lib.ListN.{length};
 ghost use Rattle.model.specs.Answers.{outcome};
 ghost use Rattle.model.specs.Check.{checkOutcome};
 ghost use Rattle.model.specs.Number.{numberOutcome};
-ghost use Rattle.operations.specs.Answered.{Answered, WroteTree};
+ghost use Rattle.operations.specs.Answered.{taskPrepares, Answered, WroteTree};
 
 // What is asked of a table: its total, the number of the tree that is lent, or the tree of a number.
 enum Task {
     Check,
     Number,
     Write(u64),
+}
+
+// Whether a task needs to know which states are used.
+fn prepares(task: Task) -> bool
+    ensures { λ r. ⌜ r ≡ taskPrepares task ⌝ }
+{
+    match task {
+        Task::Check => false,
+        Task::Number => true,
+        Task::Write(number) => false,
+    }
 }
 
 // Answers for a table of at most 96 rows and 64 states: a row has at least three entries.
@@ -32,9 +43,11 @@ fn answer_small(
     let mut heads = [0u16; 132];
     let mut first = [0u16; 64];
     let mut counts = [0u64; 64];
-    let mut longest = [0u16; 64];
+    let mut marks = [0u64; 64];
+    let mut used = [0u8; 64];
     let mut sums = [0u64; 96];
     match table::check_into(
+        prepares(task),
         states,
         rows,
         accepting,
@@ -42,7 +55,8 @@ fn answer_small(
         &mut heads,
         &mut first,
         &mut counts,
-        &mut longest,
+        &mut marks,
+        &mut used,
         &mut sums,
     ) {
         Checked::Refuses(r) => Answer::Refused(r),
@@ -89,9 +103,11 @@ fn answer_middle(
     let mut heads = [0u16; 528];
     let mut first = [0u16; 256];
     let mut counts = [0u64; 256];
-    let mut longest = [0u16; 256];
+    let mut marks = [0u64; 256];
+    let mut used = [0u8; 256];
     let mut sums = [0u64; 384];
     match table::check_into(
+        prepares(task),
         states,
         rows,
         accepting,
@@ -99,7 +115,8 @@ fn answer_middle(
         &mut heads,
         &mut first,
         &mut counts,
-        &mut longest,
+        &mut marks,
+        &mut used,
         &mut sums,
     ) {
         Checked::Refuses(r) => Answer::Refused(r),
@@ -145,9 +162,11 @@ fn answer_full(
     let mut heads = [0u16; 1408];
     let mut first = [0u16; 256];
     let mut counts = [0u64; 256];
-    let mut longest = [0u16; 256];
+    let mut marks = [0u64; 256];
+    let mut used = [0u8; 256];
     let mut sums = [0u64; 1024];
     match table::check_into(
+        prepares(task),
         states,
         rows,
         accepting,
@@ -155,7 +174,8 @@ fn answer_full(
         &mut heads,
         &mut first,
         &mut counts,
-        &mut longest,
+        &mut marks,
+        &mut used,
         &mut sums,
     ) {
         Checked::Refuses(r) => Answer::Refused(r),

@@ -3,8 +3,9 @@ use Prim.Native.Nat.{ℕ, zero, suc, _+_, _*_, _<_, _≤_, pred}
 use mathlib.Core.Path.{_≡_, refl, sym, ap, _∙_}
 use mathlib.Core.List.{List, [], _∷_, map}
 use native.Mathlib.Omega.{arith}
-use native.Mathlib.Nat.{le-mul-of-pos-right}
+use native.Mathlib.Nat.{le-mul-of-pos-right, pos-of-ne-zero}
 use lib.ListN.{length, getD, drop, drop-of-length-le}
+use borrow.Author.Tests.{eq-eqb, ne-eqb}
 use Rattle.model.specs.Table.{Row, rowIs}
 use Rattle.model.specs.Count.{product}
 use Rattle.model.specs.Value.{horner}
@@ -16,10 +17,11 @@ use Rattle.chains.proofs.First.{first-is}
 use Rattle.rows.specs.Words.{rowNo, rowsIn, targetIn}
 use Rattle.rows.proofs.Words.{rows-long, row-held}
 use Rattle.index.specs.Index.{rowFound}
+use Rattle.counts.specs.Chain.{target}
 use Rattle.counts.specs.States.{held}
 use Rattle.rank.specs.declared.Node.the-variants.{Reaches, Stuck}
-use Rattle.rank.specs.Machine.{nodeOf}
-use Rattle.rank.specs.RankReady.{ValuesFit, Foldable, Closable}
+use Rattle.rank.specs.Machine.{formed, nodeOf}
+use Rattle.rank.specs.RankReady.{ValuesFit, Foldable, Formable, Closable}
 
 -- ---- Horner's way, child by child
 
@@ -76,21 +78,39 @@ module _ (pool words : List ℕ) (s : ℕ) (xs : List ℕ) (k : ℕ) (found : ro
   pub found-inside : k < length words
   found-inside = rw (rows-long pool words) at (first-is (λ k. rowIs (rowNo (rowsIn pool words) k) s xs) (length (rowsIn pool words)) k found .0)
 
-  pub node-reaches : (cs sums vs : List ℕ) (q h : ℕ) → q ≡ targetIn (getD words k 0) → h ≡ horner (held cs) 0 xs vs
-      → Reaches q (h + getD sums k 0) ≡ nodeOf (rowsIn pool words) cs sums s xs vs
+  -- its target
+  pub found-target : (q : ℕ) → q ≡ targetIn (getD words k 0) → q ≡ target (rowsIn pool words) k
+  found-target q e = e ∙ sym (ap (λ (r : Row). r .target) (row-held pool words k found-inside))
+
+  pub node-forms : (cs sums vs : List ℕ) → Closable (rowsIn pool words) cs sums s xs vs → (q : ℕ) → q ≡ targetIn (getD words k 0) → Formable cs sums xs vs k q
+  node-forms cs sums vs b q e = rw (found-target q e) (b k found)
+
+  pub node-reaches : (cs sums vs : List ℕ) (q v : ℕ) → q ≡ targetIn (getD words k 0) → v ≡ formed cs sums xs vs k q
+      → Reaches q v ≡ nodeOf (rowsIn pool words) cs sums s xs vs
   unfolding nodeOf
-  node-reaches cs sums vs q h e d =
-      let t : q ≡ rowNo (rowsIn pool words) k .target = e ∙ sym (ap (λ (r : Row). r .target) (row-held pool words k found-inside)) in
-      rw found (λ j. Reaches (t j) (d j + getD sums k 0))
+  node-reaches cs sums vs q v e d =
+      let t = found-target q e in
+      rw found (λ j. Reaches (t j) ((d ∙ ap (formed cs sums xs vs k) t) j))
 
 pub node-stuck : (rows : List Row) (cs sums : List ℕ) (s : ℕ) (xs vs : List ℕ) → rowFound rows s xs ≡ Nothing → Stuck ≡ nodeOf rows cs sums s xs vs
 unfolding nodeOf
 node-stuck rows cs sums s xs vs e = rw e
 
--- what a closable node needs
-module _ {rows : List Row} {cs sums : List ℕ} {s : ℕ} {xs vs : List ℕ} (b : Closable rows cs sums s xs vs) (k : ℕ) (found : rowFound rows s xs ≡ At k) where
-  pub closable-folds : Foldable cs xs vs
-  closable-folds = record { valued = b .valued; small = omega (arith, b .small k found) }
+-- ---- the value in a state
 
-  pub closable-fits : (h : ℕ) → h ≡ horner (held cs) 0 xs vs → h + getD sums k 0 < countLimit
-  closable-fits h e = omega (arith, b .small k found, horner-less (valued-below (b .valued)))
+module _ (cs sums xs vs : List ℕ) (k q : ℕ) where
+  -- none is formed in a state that counts 0
+  pub unformed : held cs q ≡ 0 → 0 ≡ formed cs sums xs vs k q
+  unfolding formed
+  unformed z = rw (eq-eqb (held cs q) 0 z)
+
+  pub formed-is : (held cs q ≡ 0 → ⊥) → (h : ℕ) → h ≡ horner (held cs) 0 xs vs → h + getD sums k 0 ≡ formed cs sums xs vs k q
+  unfolding formed
+  formed-is n h e = rw (ne-eqb (held cs q) 0 n, e)
+
+  module _ (b : Formable cs sums xs vs k q) (n : held cs q ≡ 0 → ⊥) where
+    pub formable-folds : Foldable cs xs vs
+    formable-folds = let p = pos-of-ne-zero n in record { valued = b .valued p; small = omega (arith, b .small p) }
+
+    pub formable-fits : (h : ℕ) → h ≡ horner (held cs) 0 xs vs → h + getD sums k 0 < countLimit
+    formable-fits h e = let p = pos-of-ne-zero n in omega (arith, b .small p, horner-less (valued-below (b .valued p)))

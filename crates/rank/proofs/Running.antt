@@ -1,11 +1,12 @@
 -- The arrays as stacks, while the entries of a tree are taken in turn. Assumes nothing.
-use Prim.Native.Nat.{ℕ, zero, suc, _+_, _*_, _-_, _<_, _≤_}
+use Prim.Native.Nat.{ℕ, zero, suc, _+_, _*_, _-_, _<_, _≤_, max}
 use mathlib.Core.Path.{_≡_, refl, sym, ap, _∙_}
 use mathlib.Core.Bool.{true, false, _&&_, _||_}
 use mathlib.Core.List.{List, [], _∷_, _++_, map}
 use native.Mathlib.Omega.{arith}
 use native.Mathlib.Numerals.{add-one}
-use native.Mathlib.Nat.{zero-sub, pos-of-ne-zero}
+use mathlib.Core.Logic.{_⊎_, inl, inr}
+use native.Mathlib.Nat.{zero-sub, pos-of-ne-zero, eq-zero-or-pos}
 use lib.ListN.{length, getD, set, take, drop, replicate, length-replicate, length-set, length-drop, drop-of-length-le}
 use lib.Seq.{take-nil, take-all, getD-set-same, getD-set-other, take-suc-set, length-take-le, take-take, getD-take, getD-drop}
 use lib.Dec.{ltb, eqb}
@@ -37,9 +38,9 @@ use Rattle.tree.specs.declared.Step.the-variants.{Opens, Closes, Refuses}
 use Rattle.tree.proofs.Laws.{Read, refusing, opens-by, closes-by, opened, shut, refused-here, begins as read-begins}
 use Rattle.rank.specs.declared.Node.{Node}
 use Rattle.rank.specs.declared.Node.the-variants.{Reaches, Stuck}
-use Rattle.rank.specs.Machine.{nodeBy, nodeOf, numbered, run, machine}
-use Rattle.rank.specs.RankReady.{ValuesFit, Closable, Summable, RankReady, StackRoom}
-use Rattle.rank.proofs.Folding.{valued-below}
+use Rattle.rank.specs.Machine.{formed, nodeBy, nodeOf, numbered, run, machine}
+use Rattle.rank.specs.RankReady.{ValuesFit, Closable, Summable, AllCount, RankReady, StackRoom}
+use Rattle.rank.proofs.Folding.{valued-below, unformed, formed-is}
 
 -- ---- an array as a stack
 
@@ -115,39 +116,72 @@ step-closes s t e p =
 
 -- what a node found by its row is
 by-row : (f : Found) (rows : List Row) (cs sums xs vs : List ℕ) (q v : ℕ) → nodeBy f rows cs sums xs vs ≡ Reaches q v
-    → (k : ℕ) × (f ≡ At k) × (q ≡ target rows k) × (v ≡ horner (held cs) 0 xs vs + getD sums k 0)
+    → (k : ℕ) × (f ≡ At k) × (q ≡ target rows k) × (v ≡ formed cs sums xs vs k (target rows k))
 by-row (At k) rows cs sums xs vs q v e = (k, refl, cc, cc)
 by-row Nothing rows cs sums xs vs q v e = let z : _≡_ {A = ℕ} 0 1 = cc in absurd (omega arith)
 
+-- what waits: one value for each state; each state has trees, and the value is below its count, or 0 in a state that counts 0
+pub record Children (whole : ℕ → ℕ) (cs xs vs : List ℕ) : Type 0 where
+  pub many : length vs ≡ length xs
+  pub placed : (k : ℕ) → k < length xs → getD xs k 0 < length cs
+  pub reached : AllCount whole xs
+  pub below : (k : ℕ) → k < length xs → getD vs k 0 < max 1 (held cs (getD xs k 0))
+
 module _ {by : ℕ} {pool words heads accepting cs sums : List ℕ} (ready : RankReady by pool words heads accepting cs sums) (s : ℕ) (xs : List ℕ) where
-  -- the row that is found counts, with the rows before it, at most what its target counts
-  found-fits : (k : ℕ) → rowFound (rowsIn pool words) s xs ≡ At k → (k < length words) × (product (map (held cs) xs) + getD sums k 0 ≤ held cs (target (rowsIn pool words) k))
-  found-fits k e =
-      let f = first-is (λ k. rowIs (rowNo (rowsIn pool words) k) s xs) (length (rowsIn pool words)) k e in
-      let l : k < length words = rw (rows-long pool words) at (f .0) in
-      let a : rowNo (rowsIn pool words) k .args ≡ xs = rowIs-true (rowNo (rowsIn pool words) k) s xs (f .1) .1 in
-      (l, rw a at (ready .shares k l))
+  abbrev held-rows : List Row
+  held-rows = rowsIn pool words
 
-  closes-within : (vs : List ℕ) → ValuesFit cs xs vs → Closable (rowsIn pool words) cs sums s xs vs
-  closes-within vs v = record { valued = v; small = λ k e. let f = found-fits k e in omega (arith, f .1, ready .small k (f .0)) }
+  -- the row that is found has these arguments
+  found-row : (k : ℕ) → rowFound held-rows s xs ≡ At k → (k < length words) × (rowNo held-rows k .args ≡ xs)
+  found-row k e =
+      let f = first-is (λ k. rowIs (rowNo held-rows k) s xs) (length held-rows) k e in
+      (rw (rows-long pool words) at (f .0), rowIs-true (rowNo held-rows k) s xs (f .1) .1)
 
-  -- the state has a place, and the value is below its count
-  node-below : (vs : List ℕ) → ValuesFit cs xs vs → (q v : ℕ) → nodeOf (rowsIn pool words) cs sums s xs vs ≡ Reaches q v → (q < length cs) × (v < held cs q)
-  unfolding nodeOf
-  node-below vs b q v e =
-      let r = by-row (rowFound (rowsIn pool words) s xs) (rowsIn pool words) cs sums xs vs q v e in
-      let k = r .0 in
-      let f = found-fits k (r .1) in
-      let less = horner-less (valued-below b) in
-      let q-is : q ≡ target (rowsIn pool words) k = r .2 in
-      let v-is : v ≡ horner (held cs) 0 xs vs + getD sums k 0 = r .3 in
-      let small : v < held cs (target (rowsIn pool words) k) = omega (arith, f .1) in
-      (rw q-is (ready .targets k (f .0)), rw q-is small)
+  module _ (vs : List ℕ) (x : Children (ready .whole) cs xs vs) where
+    -- where its target is used, the children's values are below their counts
+    valued : (k : ℕ) → rowFound held-rows s xs ≡ At k → 0 < held cs (target held-rows k) → ValuesFit cs xs vs
+    valued k e p =
+        let f = found-row k e in
+        let a : AllCount (ready .whole) (rowNo held-rows k .args) = rw (f .1) (x .reached) in
+        let u : AllCount (held cs) xs = rw (f .1) at (ready .used k (f .0) a p) in
+        record { many = x .many; placed = x .placed; below = λ j l. omega (arith, x .below j l, u j l) }
+
+    share : (k : ℕ) → rowFound held-rows s xs ≡ At k → 0 < held cs (target held-rows k) → product (map (held cs) xs) + getD sums k 0 ≤ held cs (target held-rows k)
+    share k e p = let f = found-row k e in rw (f .1) at (ready .shares k (f .0) p)
+
+    closes-within : Closable held-rows cs sums s xs vs
+    closes-within k e =
+        let l = found-row k e .0 in
+        record {
+          state = ready .targets k l;
+          row = omega (arith, ready .sums-room);
+          valued = valued k e;
+          small = λ p. omega (arith, share k e p, ready .small k l);
+        }
+
+    -- the state has a place and trees, and the value is below its count, or 0
+    node-below : (q v : ℕ) → nodeOf held-rows cs sums s xs vs ≡ Reaches q v → (q < length cs) × (0 < ready .whole q) × (v < max 1 (held cs q))
+    unfolding nodeOf
+    node-below q v e =
+        let r = by-row (rowFound held-rows s xs) held-rows cs sums xs vs q v e in
+        let k = r .0 in
+        let f = found-row k (r .1) in
+        let a : AllCount (ready .whole) (rowNo held-rows k .args) = rw (f .1) (x .reached) in
+        let q-is : q ≡ target held-rows k = r .2 in
+        rw q-is (ready .targets k (f .0), ready .reached k (f .0) a, go k (r .1) (eq-zero-or-pos (held cs (target held-rows k))) v (r .3))
+      where
+        go : (k : ℕ) → rowFound held-rows s xs ≡ At k → (held cs (target held-rows k) ≡ 0) ⊎ (0 < held cs (target held-rows k)) → (v : ℕ) → v ≡ formed cs sums xs vs k (target held-rows k)
+            → v < max 1 (held cs (target held-rows k))
+        go k e (inl z) v d = omega (arith, unformed cs sums xs vs k (target held-rows k) z)
+        go k e (inr p) v d =
+            let h = formed-is cs sums xs vs k (target held-rows k) (λ z. omega arith) (horner (held cs) 0 xs vs) refl in
+            omega (arith, h, horner-less (valued-below (valued k e p)), share k e p)
 
 -- ---- the entries in turn
 
 -- i entries are read: the open nodes and what waits stand in the arrays, and the machine goes on from there
-pub record Running (pool words accepting cs sums tree opens₀ begins₀ waiting₀ values₀ opens begins waiting values : List ℕ) (w : ℕ) (s : Reading) (i : ℕ) : Type 0 where
+pub record Running (by : ℕ) (pool words heads accepting cs sums tree opens₀ begins₀ waiting₀ values₀ opens begins waiting values : List ℕ) (w : ℕ) (s : Reading) (i : ℕ) : Type 0 where
+  pub ready : RankReady by pool words heads accepting cs sums
   pub reads : Read tree s i
   pub space : StackRoom tree opens₀ begins₀ waiting₀ values₀
   pub opens-long : length opens ≡ length opens₀
@@ -161,7 +195,8 @@ pub record Running (pool words accepting cs sums tree opens₀ begins₀ waiting
   pub under : (j : ℕ) → j < s .depth → getD begins j 0 ≤ w
   pub sorted : (j k : ℕ) → j ≤ k → k < s .depth → getD begins j 0 ≤ getD begins k 0
   pub placed : (j : ℕ) → j < w → getD waiting j 0 < length cs
-  pub below : (j : ℕ) → j < w → getD values j 0 < held cs (getD waiting j 0)
+  pub reached : (j : ℕ) → j < w → 0 < ready .whole (getD waiting j 0)
+  pub below : (j : ℕ) → j < w → getD values j 0 < max 1 (held cs (getD waiting j 0))
   pub same : run (nodeOf (rowsIn pool words) cs sums) (numbered accepting cs) (stackOf (s .depth) opens) (stackOf (s .depth) begins) (take w waiting) (take w values) i (drop i tree)
       ≡ machine (rowsIn pool words) accepting cs sums tree
 
@@ -171,11 +206,12 @@ zeros-room tree n short l =
     let e : length {A = ℕ} (replicate n 0) ≡ n = length-replicate {A = ℕ} n 0 in
     record { short = short; opens-room = rw e l; begins-room = rw e l; waiting-room = rw e l; values-room = rw e l }
 
-pub running-begins : (pool words accepting cs sums tree opens begins waiting values : List ℕ) (s : Reading) → StackRoom tree opens begins waiting values → s ≡ fresh
-    → Running pool words accepting cs sums tree opens begins waiting values opens begins waiting values 0 s 0
-running-begins pool words accepting cs sums tree opens begins waiting values s space e =
+pub running-begins : {by : ℕ} {pool words heads accepting cs sums : List ℕ} (tree opens begins waiting values : List ℕ) (s : Reading) → RankReady by pool words heads accepting cs sums → StackRoom tree opens begins waiting values → s ≡ fresh
+    → Running by pool words heads accepting cs sums tree opens begins waiting values opens begins waiting values 0 s 0
+running-begins tree opens begins waiting values s ready space e =
     let d : s .depth ≡ 0 = ap (λ (r : Reading). r .depth) e in
     record {
+      ready = ready;
       reads = read-begins tree s (space .short) e;
       space = space;
       opens-long = refl;
@@ -188,12 +224,13 @@ running-begins pool words accepting cs sums tree opens begins waiting values s s
       under = λ j l. absurd (omega arith);
       sorted = λ j k le l. absurd (omega arith);
       placed = λ j l. absurd (omega arith);
+      reached = λ j l. absurd (omega arith);
       below = λ j l. absurd (omega arith);
       same = rw (d, no-stack opens, no-stack begins);
     }
 
-module _ {pool words accepting cs sums tree opens₀ begins₀ waiting₀ values₀ opens begins waiting values : List ℕ} {w : ℕ} {s : Reading} {i : ℕ}
-    (r : Running pool words accepting cs sums tree opens₀ begins₀ waiting₀ values₀ opens begins waiting values w s i) where
+module _ {by : ℕ} {pool words heads accepting cs sums tree opens₀ begins₀ waiting₀ values₀ opens begins waiting values : List ℕ} {w : ℕ} {s : Reading} {i : ℕ}
+    (r : Running by pool words heads accepting cs sums tree opens₀ begins₀ waiting₀ values₀ opens begins waiting values w s i) where
   abbrev rows : List Row
   rows = rowsIn pool words
 
@@ -231,7 +268,7 @@ module _ {pool words accepting cs sums tree opens₀ begins₀ waiting₀ values
           rw (push d opens (getD tree i 0) mo, push d begins w mb, q) (rw size at h)
 
       pub node-opens : (opens′ begins′ : List ℕ) → (opens′ ≡ set opens (t .depth - 1) (getD tree i 0)) × (begins′ ≡ set begins (t .depth - 1) w)
-          → Running pool words accepting cs sums tree opens₀ begins₀ waiting₀ values₀ opens′ begins′ waiting values w t (i + 1)
+          → Running by pool words heads accepting cs sums tree opens₀ begins₀ waiting₀ values₀ opens′ begins′ waiting values w t (i + 1)
       node-opens opens′ begins′ stored =
           let up : t .depth ≡ suc (s .depth) = step-opens s t (getD tree i 0) e .1 in
           let q : t .depth - 1 ≡ s .depth = omega arith in
@@ -241,6 +278,7 @@ module _ {pool words accepting cs sums tree opens₀ begins₀ waiting₀ values
           let under′ : (j : ℕ) → j < t .depth - 1 + 1 → getD (set begins (t .depth - 1) w) j 0 ≤ w
           = below-more (λ (j : ℕ). getD (set begins (t .depth - 1) w) j 0 ≤ w) (t .depth - 1) (λ j lt. rw (other j lt) (r .under j (omega arith))) (rw there (omega arith)) in
           rw (stored .0, stored .1) (record {
+            ready = r .ready;
             reads = opened (r .reads) l t e;
             space = r .space;
             opens-long = length-set opens (t .depth - 1) (getD tree i 0) ∙ r .opens-long;
@@ -256,6 +294,7 @@ module _ {pool words accepting cs sums tree opens₀ begins₀ waiting₀ values
                 (λ m lm le2. rw (other j (omega arith), other m lm) (r .sorted j m le2 (omega arith)))
                 (λ le2. rw there (under′ j (omega arith))) k (omega arith) le;
             placed = r .placed;
+            reached = r .reached;
             below = r .below;
             same =
                 ap (λ (k : ℕ). run (nodeOf rows cs sums) (numbered accepting cs) (stackOf k (set opens (t .depth - 1) (getD tree i 0))) (stackOf k (set begins (t .depth - 1) w)) (take w waiting) (take w values) (i + 1) (drop (i + 1) tree))
@@ -286,7 +325,7 @@ module _ {pool words accepting cs sums tree opens₀ begins₀ waiting₀ values
       )
 
       -- the children's states and values
-      children : ValuesFit cs (take (w - b) (drop b waiting)) (take (w - b) (drop b values))
+      children : Children (r .ready .whole) cs (take (w - b) (drop b waiting)) (take (w - b) (drop b values))
       children =
           let len-w : length (take (w - b) (drop b waiting)) ≡ w - b = length-take-le (w - b) (drop b waiting) (rw (length-drop b waiting) (omega (arith, few-wait .1, close-under))) in
           let len-v : length (take (w - b) (drop b values)) ≡ w - b = length-take-le (w - b) (drop b values) (rw (length-drop b values) (omega (arith, few-wait .2, close-under))) in
@@ -295,12 +334,12 @@ module _ {pool words accepting cs sums tree opens₀ begins₀ waiting₀ values
           record {
             many = len-v ∙ sym len-w;
             placed = λ k lt. let lk : k < w - b = rw len-w at lt in rw (at-w k lk) (r .placed (b + k) (omega arith));
+            reached = λ k lt. let lk : k < w - b = rw len-w at lt in rw (at-w k lk) (r .reached (b + k) (omega arith));
             below = λ k lt. let lk : k < w - b = rw len-w at lt in rw (at-w k lk, at-v k lk) (r .below (b + k) (omega arith));
           }
 
-      pub close-fits : {by : ℕ} {heads : List ℕ} → RankReady by pool words heads accepting cs sums
-          → Closable rows cs sums (getD opens (t .depth) 0) (take (w - b) (drop b waiting)) (take (w - b) (drop b values))
-      close-fits ready = closes-within ready (getD opens (t .depth) 0) (take (w - b) (drop b waiting)) (take (w - b) (drop b values)) children
+      pub close-fits : Closable rows cs sums (getD opens (t .depth) 0) (take (w - b) (drop b waiting)) (take (w - b) (drop b values))
+      close-fits = closes-within (r .ready) (getD opens (t .depth) 0) (take (w - b) (drop b waiting)) (take (w - b) (drop b values)) children
 
       -- the machine at the bar
       at-bar : run (nodeOf rows cs sums) (numbered accepting cs) (getD opens (t .depth) 0 ∷ stackOf (t .depth) opens) (b ∷ stackOf (t .depth) begins) (take w waiting) (take w values) i (getD tree i 0 ∷ drop (i + 1) tree)
@@ -322,17 +361,18 @@ module _ {pool words accepting cs sums tree opens₀ begins₀ waiting₀ values
       front : (xs : List ℕ) (x : ℕ) → b < length xs → take (b + 1) (set xs b x) ≡ take b (take w xs) ++ (x ∷ [])
       front xs x lt = rw (add-one b, take-suc-set xs b x lt, take-take b w xs close-under)
 
-      pub node-closes : {by : ℕ} {heads : List ℕ} → RankReady by pool words heads accepting cs sums → (q v : ℕ)
+      pub node-closes : (q v : ℕ)
           → nodeOf rows cs sums (getD opens (t .depth) 0) (take (w - b) (drop b waiting)) (take (w - b) (drop b values)) ≡ Reaches q v
           → (waiting′ values′ : List ℕ) → (waiting′ ≡ set waiting b q) × (values′ ≡ set values b v)
-          → Running pool words accepting cs sums tree opens₀ begins₀ waiting₀ values₀ opens begins waiting′ values′ (b + 1) t (i + 1)
-      node-closes ready q v h waiting′ values′ stored =
-          let x = node-below ready (getD opens (t .depth) 0) (take (w - b) (drop b waiting)) (take (w - b) (drop b values)) children q v h in
+          → Running by pool words heads accepting cs sums tree opens₀ begins₀ waiting₀ values₀ opens begins waiting′ values′ (b + 1) t (i + 1)
+      node-closes q v h waiting′ values′ stored =
+          let x = node-below (r .ready) (getD opens (t .depth) 0) (take (w - b) (drop b waiting)) (take (w - b) (drop b values)) children q v h in
           let here-w : getD (set waiting b q) b 0 ≡ q = getD-set-same waiting b q 0 (close-room .0) in
           let here-v : getD (set values b v) b 0 ≡ v = getD-set-same values b v 0 (close-room .1) in
           let other-w : (j : ℕ) → j < b → getD (set waiting b q) j 0 ≡ getD waiting j 0 = λ j lt. getD-set-other waiting b j q 0 (omega arith) in
           let other-v : (j : ℕ) → j < b → getD (set values b v) j 0 ≡ getD values j 0 = λ j lt. getD-set-other values b j v 0 (omega arith) in
           rw (stored .0, stored .1) (record {
+            ready = r .ready;
             reads = shut (r .reads) l t e;
             space = r .space;
             opens-long = r .opens-long;
@@ -345,8 +385,9 @@ module _ {pool words accepting cs sums tree opens₀ begins₀ waiting₀ values
             under = λ j lt. omega (arith, at, r .sorted j (t .depth) (omega arith) (omega (arith, deeper)));
             sorted = λ j k le lt. r .sorted j k le (omega (arith, deeper));
             placed = below-more (λ (j : ℕ). getD (set waiting b q) j 0 < length cs) b (λ j lt. rw (other-w j lt) (r .placed j (omega (arith, close-under)))) (rw here-w (x .0));
-            below = below-more (λ (j : ℕ). getD (set values b v) j 0 < held cs (getD (set waiting b q) j 0)) b
-                (λ j lt. rw (other-w j lt, other-v j lt) (r .below j (omega (arith, close-under)))) (rw (here-w, here-v) (x .1));
+            reached = below-more (λ (j : ℕ). 0 < r .ready .whole (getD (set waiting b q) j 0)) b (λ j lt. rw (other-w j lt) (r .reached j (omega (arith, close-under)))) (rw here-w (x .1));
+            below = below-more (λ (j : ℕ). getD (set values b v) j 0 < max 1 (held cs (getD (set waiting b q) j 0))) b
+                (λ j lt. rw (other-w j lt, other-v j lt) (r .below j (omega (arith, close-under)))) (rw (here-w, here-v) (x .2));
             same =
                 rw (front waiting q (close-room .0), front values v (close-room .1))
                 (sym (run-close (nodeOf rows cs sums) (numbered accepting cs) (stackOf (t .depth) opens) (stackOf (t .depth) begins) (take w waiting) (take w values) i
@@ -378,8 +419,8 @@ module _ {pool words accepting cs sums tree opens₀ begins₀ waiting₀ values
     pub end-room : (0 < length waiting) × (0 < length values)
     end-room = (omega (arith, one-waits, few-wait .1), omega (arith, one-waits, few-wait .2))
 
-    pub end-sums : {by : ℕ} {heads : List ℕ} → RankReady by pool words heads accepting cs sums → Summable accepting cs (getD waiting 0 0) (getD values 0 0)
-    end-sums ready = record { below = r .below 0 one-waits; placed = ready .placed; small = ready .total }
+    pub end-sums : Summable accepting cs (getD waiting 0 0) (getD values 0 0)
+    end-sums = record { below = r .below 0 one-waits; placed = r .ready .placed; small = r .ready .total }
 
     pub tree-ends : numbered accepting cs (getD waiting 0 0) (getD values 0 0) (i - 1) ≡ machine rows accepting cs sums tree
     tree-ends =

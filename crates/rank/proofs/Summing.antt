@@ -46,8 +46,8 @@ module _ {accepting cs : List ℕ} {q earlier i : ℕ} (s : Summing accepting cs
     pub sum-fits : {v : ℕ} → Summable accepting cs q v → (x : ℕ) → x ≡ getD accepting i 0 → earlier + held cs x ≤ countLimit
     sum-fits b x e = omega (arith, more-is x e, sum-take-le (map (held cs) accepting) (i + 1), b .small)
 
-    -- the state is listed here: the value is below its count, so the number is below the total
-    pub number-fits : {v : ℕ} → Summable accepting cs q v → getD accepting i 0 ≡ q → v + earlier < countLimit
+    -- the state is listed here: the value is at most its count, so the number is at most the total
+    pub number-fits : {v : ℕ} → Summable accepting cs q v → getD accepting i 0 ≡ q → v + earlier ≤ countLimit
     number-fits b e = omega (arith, b .below, sum-fits b q (sym e))
 
     pub listed-here : getD accepting i 0 ≡ q → (v place : ℕ) → result (v + earlier) ≡ numbered accepting cs q v place

@@ -18,9 +18,14 @@ use Rattle.counts.specs.States.{held}
 use Rattle.rank.specs.declared.Node.{Node}
 use Rattle.rank.specs.declared.Node.the-variants.{Reaches, Stuck}
 
+-- the value of a tree in its state q, by its row k, where the children have the states xs and the values vs. "no value is formed in an unused
+-- one" (document 02, c): an unused state counts 0 here, and 0 stands for the value
+unfoldable pub formed : (cs sums xs vs : List ℕ) (k q : ℕ) → ℕ
+formed cs sums xs vs k q = if eqb (held cs q) 0 then 0 else horner (held cs) 0 xs vs + getD sums k 0
+
 -- the state and the value by the row that was found
 abbrev pub nodeBy : Found → (rows : List Row) (cs sums xs vs : List ℕ) → Node
-nodeBy (At k) rows cs sums xs vs = Reaches (target rows k) (horner (held cs) 0 xs vs + getD sums k 0)
+nodeBy (At k) rows cs sums xs vs = Reaches (target rows k) (formed cs sums xs vs k (target rows k))
 nodeBy Nothing rows cs sums xs vs = Stuck
 
 -- the state and the value of a tree with symbol s, whose children have the states xs and the values vs

@@ -16,8 +16,8 @@ ghost use Rattle.model.specs.Entries.{treeThen};
 ghost use Rattle.rows.specs.Words.{rowsIn, nexts, Held};
 ghost use Rattle.index.specs.Index.{Index};
 ghost use Rattle.counts.specs.States.{held};
-ghost use Rattle.rank.specs.Machine.{nodeOf, numbered, machine};
-ghost use Rattle.rank.specs.RankReady.{Foldable, Closable, Summable, RankReady, StackRoom};
+ghost use Rattle.rank.specs.Machine.{formed, nodeOf, numbered, machine};
+ghost use Rattle.rank.specs.RankReady.{Foldable, Formable, Closable, Summable, RankReady, StackRoom};
 
 // What closing a node gives: the state that the tree reaches and its value there; or that it reaches none.
 enum Node {
@@ -39,6 +39,17 @@ fn fold(states: &[u16], values: &[u64], counts: &[u64]) -> u64
     h
 }
 
+// The value of a tree in its state q, by its row k. An unused state counts 0, and no value is formed in it: 0 stands there.
+fn value_in(counts: &[u64], sums: &[u64], states: &[u16], values: &[u64], k: usize, q: u16) -> u64
+    requires { ⌜ Formable (now counts) (now sums) (now states) (now values) k q ⌝ }
+    ensures { λ r. ⌜ r ≡ formed (now (counts .entry)) (now (sums .entry)) (now (states .entry)) (now (values .entry)) k q ⌝ }
+{
+    if counts[chains::wide(q)] == 0 {
+        return 0;
+    }
+    fold(states, values, counts) + sums[k]
+}
+
 // The state and the value of a tree with this symbol, whose children have these states and values.
 fn close(
     pool: &[u16],
@@ -53,16 +64,14 @@ fn close(
 ) -> Node
     requires { ⌜ Held (now pool) (now words) (length (now words)) ⌝ }
     requires { ⌜ Index by (rowsIn (now pool) (now words)) (now heads) (nexts (now words)) ⌝ }
-    requires { ⌜ (length (now words) ≤ length (now sums)) × Closable (rowsIn (now pool) (now words)) (now counts) (now sums) symbol (now states) (now values) ⌝ }
+    requires { ⌜ Closable (rowsIn (now pool) (now words)) (now counts) (now sums) symbol (now states) (now values) ⌝ }
     ensures { λ r. ⌜ r ≡ nodeOf (rowsIn (now (pool .entry)) (now (words .entry))) (now (counts .entry)) (now (sums .entry))
         symbol (now (states .entry)) (now (values .entry)) ⌝ }
 {
     match index::find_row(pool, words, heads, by, symbol, states) {
         Found::At(k) => {
-            Node::Reaches(
-                rows::target_in(words[k]),
-                fold(states, values, counts) + sums[k],
-            )
+            let q = rows::target_in(words[k]);
+            Node::Reaches(q, value_in(counts, sums, states, values, k, q))
         }
         Found::Nothing => Node::Stuck,
     }

@@ -1,66 +1,52 @@
 -- Laws of the check from the states on. Assumes nothing.
-use Prim.Native.Nat.{ℕ, _<_, _≤_, min}
-use mathlib.Core.Path.{_≡_, ap, _∙_}
+use Prim.Native.Nat.{ℕ, _<_, _≤_}
+use mathlib.Core.Path.{_≡_, refl, sym, ap, _∙_}
+use mathlib.Core.Bool.{Bool, true}
 use mathlib.Core.List.{List, map}
 use native.Mathlib.Omega.{arith}
 use lib.ListN.{length, getD}
+use lib.Dec.{ltb}
 use borrow.Author.Tests.{lt-ltb, le-ltb}
 use Rattle.model.specs.declared.Kind.{Kind}
 use Rattle.model.specs.declared.Refusal.{Refusal}
-use Rattle.model.specs.Answers.{Outcome, result, refused, kindNumber, refusedBy}
-use Rattle.model.specs.Choice.{firstFaulty}
+use Rattle.model.specs.declared.Answer.{Answer}
+use Rattle.model.specs.declared.Answer.the-variants.{Refused}
+use Rattle.model.specs.Answers.{Outcome, result, refused, kindNumber, refusedBy, outcome}
+use Rattle.model.specs.Choice.{if_then_else_, firstFaulty}
 use Rattle.model.specs.Table.{Row, Table, acceptingStates}
 use Rattle.model.specs.Count.{sum, count, total}
 use Rattle.model.specs.Check.{stateGround, countsOutcome, countLimit}
 use Rattle.model.proofs.Choice.{no-fault, fault-refused}
-use Rattle.model.proofs.Counting.{map-agree}
-use Rattle.model.proofs.Checked.{state-good}
+use Rattle.model.proofs.Counting.{map-agree, total-is}
 use Rattle.model.proofs.Numbers.{kind-positive}
 use Rattle.chains.specs.First.{FirstAt}
 use Rattle.rows.specs.Words.{rowsIn, heldTable}
 use Rattle.rows.proofs.Words.{rows-long}
-use Rattle.counts.specs.declared.StateFault.{StateFault}
-use Rattle.counts.specs.declared.StateFault.the-variants.{At, Nothing}
+use Rattle.counts.specs.declared.Kept.{Kept}
+use Rattle.counts.specs.Kept.{Is}
 use Rattle.counts.specs.Chain.{Chainable, ChainedRows}
-use Rattle.counts.specs.States.{ceiling, held, ArgsWithin, rowTable, CountsKnown, CountedStates, CountReady}
-use Rattle.counts.proofs.All.{ground-same}
-use Rattle.model.specs.declared.Answer.the-variants.{Result, Refused}
-use Rattle.table.specs.Checked.{StatesReady, StatesAnswer}
+use Rattle.counts.specs.States.{held, ArgsPlaced, CountReady, CountedStates}
+use Rattle.counts.proofs.KeptCounts.{kept-within, kept-beyond, kept-above}
+use Rattle.used.specs.declared.StateFault.{StateFault}
+use Rattle.used.specs.declared.StateFault.the-variants.{At, Nothing}
+use Rattle.used.specs.Settled.{SettleReady, Settled}
+use Rattle.table.specs.Checked.{totalOr11, StatesReady, StatesAnswer}
 
--- ---- what is answered, from counts that are known
+-- ---- the total
 
-module _ (states : ℕ) (rows : List Row) (accepting : List ℕ) where
-  abbrev T : Table
-  T = record { states = states; rows = rows; accepting = accepting }
+module _ {k : Kept} {n : ℕ} (is : Is k n) where
+  pub total-over : (k .over ≡ 0 → ⊥) → refused 11 0 ≡ totalOr11 n
+  total-over h = let l = kept-beyond is h in rw (lt-ltb countLimit n (omega arith))
 
-  -- a faulty state: 9 or 10
-  fault-is : (q : ℕ) (k : Kind) → FirstAt states (stateGround countLimit (rowTable states rows)) q (kindNumber k) → refused (kindNumber k) q ≡ countsOutcome countLimit T
-  fault-is q k f =
-      fault-refused states q (kindNumber k) (stateGround countLimit T) _ (f .inside)
-      (λ j l. ground-same states rows accepting j ∙ f .before j l) (ground-same states rows accepting q ∙ f .here) (kind-positive k)
+  pub total-above : countLimit < k .count → refused 11 0 ≡ totalOr11 n
+  total-above l = rw (lt-ltb countLimit n (kept-above countLimit is l))
 
-  -- no faulty state: the total decides
-  module _ {cs ls sums : List ℕ} (listed : (k : ℕ) → k < length accepting → getD accepting k 0 < states) (x : CountsKnown states rows states cs ls sums)
-      (t : ℕ) (e : t ≡ min (sum (map (held cs) accepting)) ceiling) where
-    total-kept : t ≡ min (total T) ceiling
-    unfolding total count
-    total-kept = e ∙ ap (λ (v : ℕ). min v ceiling) (ap sum (map-agree (held cs) (count (rowTable states rows)) 0 accepting (λ k l. x .counts (getD accepting k 0) (listed k l))))
+  pub total-within : k .over ≡ 0 → k .count ≤ countLimit → result (k .count) ≡ totalOr11 n
+  total-within z l = let e = kept-within is z in rw (e, le-ltb countLimit n (omega arith))
 
-    states-clear : (o : Outcome) → firstFaulty states (stateGround countLimit T) o ≡ o
-    states-clear o = no-fault states (stateGround countLimit T) o (λ a l. ground-same states rows accepting a ∙ x .fine a l)
+-- ---- the rows chained, the states counted and held to the limits, the total
 
-    -- above the limit: 11
-    over-is : countLimit < t → refused 11 0 ≡ countsOutcome countLimit T
-    over-is gt = rw (states-clear _, lt-ltb countLimit (total T) (omega (arith, total-kept)))
-
-    pass-is : t ≤ countLimit → result t ≡ countsOutcome countLimit T
-    pass-is le =
-        let y : t ≡ total T = omega (arith, total-kept) in
-        rw (states-clear _, le-ltb countLimit (total T) (omega (arith, total-kept)), y)
-
--- ---- the rows chained, the states counted, the total
-
-module _ {states : ℕ} {pool words accepting first counts longest sums : List ℕ} (s : StatesReady states pool words accepting first counts longest sums) where
+module _ {states : ℕ} {pool words accepting first counts marks used sums : List ℕ} (s : StatesReady states pool words accepting first counts marks used sums) where
   pub chainable : Chainable pool words first
   chainable = record {
     rows-held = s .rows-held;
@@ -69,7 +55,7 @@ module _ {states : ℕ} {pool words accepting first counts longest sums : List �
   }
 
   module _ {words′ first′ : List ℕ} (x : ChainedRows pool words first words′ first′) where
-    pub count-ready : CountReady states pool words′ first′ counts longest sums
+    pub count-ready : CountReady states pool words′ first′ counts marks sums
     count-ready = record {
       rows-held = x .held;
       ordered = rw (x .same) (s .ordered);
@@ -77,51 +63,75 @@ module _ {states : ℕ} {pool words accepting first counts longest sums : List �
       room = record {
         first-room = rw (x .first-long) (s .room .first-room);
         cs-room = s .room .cs-room;
-        ls-room = s .room .ls-room;
+        marks-room = s .room .marks-room;
         sums-room = rw (x .same) (s .room .sums-room);
       };
+      blank = s .uncounted;
     }
 
     -- the table is the same
     same-table : countsOutcome countLimit (heldTable states pool words′ accepting) ≡ countsOutcome countLimit (heldTable states pool words accepting)
     same-table = ap (λ (rs : List Row). countsOutcome countLimit (record { states = states; rows = rs; accepting = acceptingStates accepting })) (x .same)
 
-    module _ {counts′ longest′ sums′ : List ℕ} {f : StateFault} (y : CountedStates states (rowsIn pool words′) counts counts′ longest′ sums sums′ f) where
-      states-refused : (r : Refusal) → refusedBy r ≡ countsOutcome countLimit (heldTable states pool words′ accepting) → StatesAnswer states pool words accepting words′ first′ counts′ longest′ sums′ (Refused r)
-      states-refused r e = record { answer = e ∙ same-table; counted = λ t h. let z : _≡_ {A = ℕ} 0 1 = cc in absurd (omega arith) }
+    abbrev T : Table
+    T = heldTable states pool words′ accepting
 
-      pub states-fault : (q : ℕ) (k : Kind) (r : Refusal) → refusedBy r ≡ refused (kindNumber k) q → f ≡ At q k → StatesAnswer states pool words accepting words′ first′ counts′ longest′ sums′ (Refused r)
-      states-fault q k r e h = states-refused r (e ∙ fault-is states (rowsIn pool words′) accepting q k (y .fault q k h))
+    module _ {counts′ marks′ sums′ : List ℕ} (y : CountedStates states (rowsIn pool words′) counts marks sums counts′ marks′ sums′) where
+      sums-here : length words′ ≤ length sums′
+      sums-here = omega (arith, count-ready .room .sums-room, y .sums-long, rows-long pool words′)
 
-      module _ (none : f ≡ Nothing) where
-        -- the accepting states have counts within the limit
-        pub entries-within : ArgsWithin countLimit counts′ accepting
-        entries-within = record {
-          placed = λ k l. omega (arith, s .listed k l, s .room .cs-room, y .cs-long);
-          small = λ k l. small (getD accepting k 0) (s .listed k l);
+      pub settle-ready : SettleReady states pool accepting words′ first′ counts′ marks′ used sums′
+      settle-ready = record {
+        rows-held = x .held;
+        ordered = count-ready .ordered;
+        chained = x .chained;
+        listed = record { placed = s .listed };
+        room = record {
+          first-room = count-ready .room .first-room;
+          cs-room = omega (arith, s .room .cs-room, y .cs-long);
+          ms-room = omega (arith, s .room .marks-room, y .marks-long);
+          used-room = s .used-room;
+          sums-room = sums-here;
+        };
+        blank = s .unmarked;
+        kept = y .known;
+      }
+
+      module _ {prepare : Bool} {counts″ sums″ : List ℕ} {f : StateFault} (z : Settled prepare states pool accepting words′ counts′ counts″ sums′ sums″ f) where
+        -- a faulty state: 9 or 10
+        pub states-fault : (q : ℕ) (k : Kind) (r : Refusal) → refusedBy r ≡ refused (kindNumber k) q → f ≡ At q k
+            → StatesAnswer prepare states pool words accepting words′ first′ counts″ sums″ (Refused r)
+        states-fault q k r e h = record {
+          answer = e ∙ fault-refused states q (kindNumber k) (stateGround countLimit T) _ (at .inside) (at .before) (at .here) (kind-positive k) ∙ same-table;
+          same = x .same;
+          links = x .links;
+          counted = λ t i. let w : _≡_ {A = ℕ} 0 1 = cc in absurd (omega arith);
         }
           where
-            small : (a : ℕ) → a < states → held counts′ a ≤ countLimit
-            small a l = rw (y .all none .counts a l) (state-good countLimit (rowTable states (rowsIn pool words′)) a (y .all none .fine a l) .0)
+            at : FirstAt states (stateGround countLimit T) q (kindNumber k)
+            at = z .fault q k h
 
-        module _ (t : ℕ) (is : t ≡ min (sum (map (held counts′) accepting)) ceiling) where
-          pub states-over : (r : Refusal) → countLimit < t → refusedBy r ≡ refused 11 0 → StatesAnswer states pool words accepting words′ first′ counts′ longest′ sums′ (Refused r)
-          states-over r gt e = states-refused r (e ∙ over-is states (rowsIn pool words′) accepting (s .listed) (y .all none) t is gt)
+        module _ (none : f ≡ Nothing) where
+          -- the accepting states have counts
+          pub entries-placed : ArgsPlaced counts″ accepting
+          entries-placed = record { placed = λ k l. omega (arith, s .listed k l, s .room .cs-room, y .cs-long, z .cs-long) }
 
-          pub states-pass : length longest′ ≡ length longest → t ≤ countLimit → StatesAnswer states pool words accepting words′ first′ counts′ longest′ sums′ (Result t)
-          states-pass ls le = record {
-            answer = pass-is states (rowsIn pool words′) accepting (s .listed) (y .all none) t is le ∙ same-table;
-            counted = λ t′ h. record {
-              same = x .same;
-              links = x .links;
+          listed-total : sum (map (held counts″) accepting) ≡ total T
+          listed-total = ap sum (map-agree (held counts″) (count T) 0 accepting (z .listed none)) ∙ sym (total-is T)
+
+          -- no faulty state: the total decides
+          pub states-total : (r : Answer) → outcome r ≡ totalOr11 (sum (map (held counts″) accepting)) → StatesAnswer prepare states pool words accepting words′ first′ counts″ sums″ r
+          states-total r e = record {
+            answer = e ∙ ap totalOr11 listed-total ∙ sym (no-fault states (stateGround countLimit T) _ (z .fine none)) ∙ same-table;
+            same = x .same;
+            links = x .links;
+            counted = λ t i. record {
               rows-held = x .held;
               chained = x .chained;
-              room = record {
-                first-room = count-ready .room .first-room;
-                cs-room = rw (y .cs-long) (s .room .cs-room);
-                ls-room = rw ls (s .room .ls-room);
-                sums-room = rw (y .sums-long) (count-ready .room .sums-room);
-              };
-              known = y .all none;
+              first-room = count-ready .room .first-room;
+              counts-room = omega (arith, s .room .cs-room, y .cs-long, z .cs-long);
+              sums-room = omega (arith, sums-here, z .sums-long);
+              left = z .left none;
+              counted = λ p. z .prepared p none;
             };
           }

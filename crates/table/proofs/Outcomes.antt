@@ -1,6 +1,7 @@
 -- Laws of the check's outcome, part by part. Assumes nothing.
 use Prim.Native.Nat.{ℕ, _<_, _≤_}
 use mathlib.Core.Path.{_≡_, sym, ap, subst, _∙_}
+use mathlib.Core.Bool.{Bool}
 use mathlib.Core.List.{List, _++_}
 use native.Mathlib.Omega.{arith}
 use lib.ListN.{length, getD, take, drop, length-map, length-append}
@@ -22,7 +23,7 @@ use Rattle.counts.specs.Chain.{InOrder}
 use Rattle.table.specs.declared.Checked.the-variants.{Sound, Refuses}
 use Rattle.model.specs.declared.Answer.{Answer}
 use Rattle.model.specs.declared.Answer.the-variants.{Result, Refused}
-use Rattle.table.specs.Checked.{Blank, StatesReady, StatesCounted, StatesAnswer, PreparedRows, CheckAnswer}
+use Rattle.table.specs.Checked.{Blank, StatesReady, StatesAnswer, PreparedRows, CheckAnswer}
 
 -- the check from the states on, and from the accepting list on
 unfoldable fromStates : (states : ℕ) (rows accepting : List ℕ) → Outcome
@@ -66,8 +67,8 @@ module _ (states : ℕ) (rows accepting : List ℕ) where
         from-states = states-is ∙ from-entries
 
 -- a refusal leaves nothing to say of the arrays
-pub refused-answer : {states : ℕ} {rows accepting words heads first counts longest sums : List ℕ} (f : Refusal) → refusedBy f ≡ checkOutcome states rows accepting
-    → CheckAnswer states rows accepting words heads first counts longest sums (Refuses f)
+pub refused-answer : {prepare : Bool} {states : ℕ} {rows accepting words heads first counts sums : List ℕ} (f : Refusal) → refusedBy f ≡ checkOutcome states rows accepting
+    → CheckAnswer prepare states rows accepting words heads first counts sums (Refuses f)
 refused-answer f h = record { answer = h; passed = λ t n by e. let z : _≡_ {A = ℕ} 0 1 = cc in absurd (omega arith) }
 
 -- ---- the states
@@ -90,8 +91,8 @@ module _ (accepting words : List ℕ) (n : ℕ) {by states : ℕ} {rows heads : 
   rows-fine = rw (x .all) at (x .fine)
 
   module _ (entries-fine : AllFine (length accepting) (acceptingGround states accepting)) where
-    pub states-ready : {heads₀ words₀ first counts longest sums : List ℕ} → Blank states rows words₀ heads₀ first counts longest sums → n ≤ length words₀
-        → StatesReady states rows (take n words) accepting first counts longest sums
+    pub states-ready : {heads₀ words₀ first counts marks used sums : List ℕ} → Blank states rows words₀ heads₀ first counts marks used sums → n ≤ length words₀
+        → StatesReady states rows (take n words) accepting first counts marks used sums
     states-ready b le = record {
       rows-held = rw (x .long) (x .held);
       ordered = rw (x .same) (rows-order states rows rows-fine);
@@ -99,9 +100,12 @@ module _ (accepting words : List ℕ) (n : ℕ) {by states : ℕ} {rows heads : 
       room = record {
         first-room = b .first-room few;
         cs-room = b .counts-room few;
-        ls-room = b .longest-room few;
+        marks-room = b .marks-room few;
         sums-room = omega (arith, rows-long rows (take n words), x .long, b .sums-room);
       };
+      used-room = b .used-room few;
+      uncounted = b .uncounted;
+      unmarked = b .unmarked;
       listed = λ i l. entry-good states accepting i (entries-fine i l) .state;
     }
       where
@@ -115,37 +119,28 @@ module _ (accepting words : List ℕ) (n : ℕ) {by states : ℕ} {rows heads : 
     unfolding fromStates
     from-here = ap (λ (rs : List Row). countsOutcome countLimit (record { states = states; rows = rs; accepting = acceptingStates accepting })) (x .same) ∙ from-states states rows accepting few rows-fine entries-fine
 
-    module _ {ys first counts longest sums : List ℕ} {r : Answer} (y : StatesAnswer states rows (take n words) accepting ys first counts longest sums r) where
-      pub total-refused : {words′ heads′ : List ℕ} (f : Refusal) → r ≡ Refused f → CheckAnswer states rows accepting words′ heads′ first counts longest sums (Refuses f)
+    module _ {prepare : Bool} {ys first counts sums : List ℕ} {r : Answer} (y : StatesAnswer prepare states rows (take n words) accepting ys first counts sums r) where
+      pub total-refused : {words′ heads′ : List ℕ} (f : Refusal) → r ≡ Refused f → CheckAnswer prepare states rows accepting words′ heads′ first counts sums (Refuses f)
       total-refused f e = refused-answer f (ap outcome (sym e) ∙ y .answer ∙ from-here)
 
       -- the table passes: the part that was lent is what the first n words hold then
-      pub total-passed : (t : ℕ) → r ≡ Result t → (words′ : List ℕ) → words′ ≡ ys ++ drop n words → CheckAnswer states rows accepting words′ heads first counts longest sums (Sound t n by)
+      pub total-passed : (t : ℕ) → r ≡ Result t → (words′ : List ℕ) → words′ ≡ ys ++ drop n words → CheckAnswer prepare states rows accepting words′ heads first counts sums (Sound t n by)
       total-passed t e words′ is = record { answer = ap outcome (sym e) ∙ y .answer ∙ from-here; passed = λ t′ m by′ h. other t′ m by′ h }
         where
-          z : StatesCounted states rows (take n words) ys first counts longest sums
-          z = y .counted t e
-
           long : length ys ≡ n
-          long = sym (rows-long rows ys) ∙ ap length (z .same) ∙ rows-long rows (take n words) ∙ x .long
+          long = sym (rows-long rows ys) ∙ ap length (y .same) ∙ rows-long rows (take n words) ∙ x .long
 
           part : take n words′ ≡ ys
           part = ap (take n) is ∙ ap (λ (k : ℕ). take k (ys ++ drop n words)) (sym long) ∙ take-append-seam ys (drop n words)
 
-          ready : PreparedRows by states rows words′ heads first counts longest sums n
+          ready : PreparedRows prepare by states rows accepting words′ heads first counts sums n
           ready = record {
             long = rw (is, length-append ys (drop n words)) (omega (arith, long));
-            same = rw part (z .same ∙ x .same);
-            prepared = rw part (record {
-              rows-held = z .rows-held;
-              index = rw (z .same, z .links) (x .index);
-              chained = z .chained;
-              room = z .room;
-              known = z .known;
-            });
+            same = rw part (y .same ∙ x .same);
+            prepared = rw part (record { index = rw (y .same, y .links) (x .index); left = y .counted t e });
           }
 
-          other : (t′ m by′ : ℕ) → Sound t n by ≡ Sound t′ m by′ → PreparedRows by′ states rows words′ heads first counts longest sums m
+          other : (t′ m by′ : ℕ) → Sound t n by ≡ Sound t′ m by′ → PreparedRows prepare by′ states rows accepting words′ heads first counts sums m
           other t′ m by′ h =
               let a : n ≡ m = cc in
               let b : by ≡ by′ = cc in

@@ -1,18 +1,22 @@
 // Checking a table.
 use chains::Found;
 use chains::wider;
-use counts::StateFault;
 use index::Walked;
 use index::two_at;
 use model::Answer;
 use model::Kind;
 use model::Refusal;
 use model::refuse;
+use used::StateFault;
 ghost use mathlib.Core.Path.{_≡_};
 ghost use Prim.Native.Nat.{_≤_};
+ghost use mathlib.Core.List.{map};
 ghost use lib.ListN.{length};
+ghost use Rattle.model.specs.Answers.{outcome};
+ghost use Rattle.model.specs.Count.{sum};
+ghost use Rattle.counts.specs.States.{held, ArgsPlaced};
 ghost use Rattle.index.specs.Hash.{Multiplier};
-ghost use Rattle.table.specs.Checked.{Empty, CrowdReady, RowsReady, RowsChecked, EntriesChecked, StatesReady, StatesAnswer, Blank, CheckAnswer};
+ghost use Rattle.table.specs.Checked.{Empty, CrowdReady, RowsReady, RowsChecked, EntriesChecked, totalOr11, StatesReady, StatesAnswer, Blank, CheckAnswer};
 
 // How many rows there are and the multiplier of their index, or the first faulty row and its ground.
 enum CheckedRows {
@@ -123,36 +127,61 @@ fn faulty_entry(states: u64, accepting: &[u16]) -> Found
     Found::Nothing
 }
 
-// The rest of the check, from the states on, where the rows and the accepting list are without fault.
+// The total, or 11.
+fn total_of(accepting: &[u16], counts: &[u64]) -> Answer
+    requires { ⌜ ArgsPlaced (now counts) (now accepting) ⌝ }
+    ensures { λ r. ⌜ outcome r ≡ totalOr11 (sum (map (held (now (counts .entry))) (now (accepting .entry)))) ⌝ }
+{
+    let total = counts::sum_of(accepting, counts);
+    if total.over != 0 {
+        return Answer::Refused(refuse(Kind::TotalAboveLimit, 0));
+    }
+    if used::LIMIT < total.count {
+        return Answer::Refused(refuse(Kind::TotalAboveLimit, 0));
+    }
+    Answer::Result(total.count)
+}
+
+// The rest of the check, from the states on, where the rows and the accepting list are without fault. Unless it is to prepare for numbering, used
+// states need not be found where no state is beyond a limit.
 fn check_states(
+    prepare: bool,
     states: usize,
     pool: &[u16],
     accepting: &[u16],
     words: &mut [u64],
     first: &mut [u16],
     counts: &mut [u64],
-    longest: &mut [u16],
+    marks: &mut [u64],
+    used: &mut [u8],
     sums: &mut [u64],
 ) -> Answer
-    requires { ⌜ StatesReady states (now pool) (now words) (now accepting) (now first) (now counts) (now longest) (now sums) ⌝ }
-    ensures { λ r. ⌜ StatesAnswer states (now (pool .entry)) (now (words .entry)) (now (accepting .entry)) (now (words .exit))
-        (now (first .exit)) (now (counts .exit)) (now (longest .exit)) (now (sums .exit)) r ⌝ }
+    requires { ⌜ StatesReady states (now pool) (now words) (now accepting) (now first) (now counts) (now marks) (now used) (now sums) ⌝ }
+    ensures { λ r. ⌜ StatesAnswer prepare states (now (pool .entry)) (now (words .entry)) (now (accepting .entry)) (now (words .exit))
+        (now (first .exit)) (now (counts .exit)) (now (sums .exit)) r ⌝ }
 {
     counts::chain_rows(pool, words, first);
-    match counts::count_states(states, pool, &*words, &*first, counts, longest, sums) {
+    counts::count_states(states, pool, &*words, &*first, counts, marks, sums);
+    match used::settle(
+        prepare,
+        states,
+        pool,
+        accepting,
+        &*words,
+        &*first,
+        counts,
+        &*marks,
+        used,
+        sums,
+    ) {
         StateFault::At(q, kind) => Answer::Refused(refuse(kind, q as u64)),
-        StateFault::Nothing => {
-            let total = counts::sum_of(accepting, &*counts);
-            if counts::LIMIT < total {
-                return Answer::Refused(refuse(Kind::TotalAboveLimit, 0));
-            }
-            Answer::Result(total)
-        }
+        StateFault::Nothing => total_of(accepting, &*counts),
     }
 }
 
-// The check of a table, which leaves in the lent arrays what numbering and writing need of one that passes.
+// The check of a table, which leaves in the lent arrays what writing needs of one that passes, and what numbering needs if it is to prepare for that.
 pub fn check_into(
+    prepare: bool,
     states: u64,
     rows: &[u16],
     accepting: &[u16],
@@ -160,12 +189,13 @@ pub fn check_into(
     heads: &mut [u16],
     first: &mut [u16],
     counts: &mut [u64],
-    longest: &mut [u16],
+    marks: &mut [u64],
+    used: &mut [u8],
     sums: &mut [u64],
 ) -> Checked
-    requires { ⌜ Blank states (now rows) (now words) (now heads) (now first) (now counts) (now longest) (now sums) ⌝ }
-    ensures { λ r. ⌜ CheckAnswer states (now (rows .entry)) (now (accepting .entry)) (now (words .exit)) (now (heads .exit))
-        (now (first .exit)) (now (counts .exit)) (now (longest .exit)) (now (sums .exit)) r ⌝ }
+    requires { ⌜ Blank states (now rows) (now words) (now heads) (now first) (now counts) (now marks) (now used) (now sums) ⌝ }
+    ensures { λ r. ⌜ CheckAnswer prepare states (now (rows .entry)) (now (accepting .entry)) (now (words .exit)) (now (heads .exit))
+        (now (first .exit)) (now (counts .exit)) (now (sums .exit)) r ⌝ }
 {
     if 256 < states {
         return Checked::Refuses(refuse(Kind::TooManyStates, 0));
@@ -175,13 +205,15 @@ pub fn check_into(
         CheckedRows::Passed(n, by) => match faulty_entry(states, accepting) {
             Found::At(i) => Checked::Refuses(refuse(Kind::AcceptingEntry, i as u64)),
             Found::Nothing => match check_states(
+                prepare,
                 states as usize,
                 rows,
                 accepting,
                 &mut words[..n],
                 first,
                 counts,
-                longest,
+                marks,
+                used,
                 sums,
             ) {
                 Answer::Refused(r) => Checked::Refuses(r),

@@ -1,15 +1,17 @@
 -- The row in which a value falls, by the sums along the chain of its state's rows. Assumes nothing.
 use Prim.Native.Nat.{ℕ, zero, suc, _-_, _<_, _≤_}
 use mathlib.Core.Path.{_≡_, refl, sym, ap, _∙_}
+use mathlib.Core.Bool.{true}
 use mathlib.Core.List.{List, [], map}
 use native.Mathlib.Omega.{arith}
 use lib.ListN.{length, getD}
 use Rattle.model.specs.Table.{Row}
 use Rattle.model.specs.Count.{sum, weight}
 use Rattle.model.specs.Value.{earlierRows, findBy}
+use Rattle.model.specs.Used.{isUsed}
 use Rattle.model.proofs.Counting.{getD-map, sum-take-suc}
 use Rattle.model.proofs.Values.{find-at}
-use Rattle.rows.specs.Words.{afterIn, rowsIn}
+use Rattle.rows.specs.Words.{afterIn, rowsIn, heldTable}
 use Rattle.rows.proofs.Words.{rows-long}
 use Rattle.counts.specs.Chain.{target, leads, TargetLink}
 use Rattle.counts.specs.States.{held}
@@ -18,7 +20,7 @@ use Rattle.counts.proofs.States.{earlier-skip, earlier-more, all-earlier}
 use Rattle.unrank.specs.declared.Entered.{Entered}
 use Rattle.unrank.specs.UnrankReady.{ValueReady}
 use Rattle.unrank.specs.Trees.{Opening, openedAt, Enters}
-use Rattle.unrank.proofs.UnrankReady.{counts-held}
+use Rattle.unrank.proofs.UnrankReady.{used-here, state-held, sum-held}
 
 -- what the rows of q before row i count together
 abbrev before : (rows : List Row) (counts : List ℕ) (q i : ℕ) → ℕ
@@ -52,12 +54,15 @@ module _ {pool words first counts sums : List ℕ} {q value : ℕ} (x : ValueRea
   many : n ≡ length words
   many = rows-long pool words
 
+  used : isUsed (heldTable (x .states) pool words (x .accepting)) q ≡ true
+  used = used-here (x .ready) q value (x .less)
+
   -- all rows of the state together count more than the value
   all-above : value < before rows counts q n
-  all-above = omega (arith, all-earlier rows counts [] q, counts-held (x .ready) .state q (x .state), x .less)
+  all-above = omega (arith, all-earlier rows (held counts) q, state-held (x .ready) q used, x .less)
 
   pub state-few : q < 256
-  state-few = omega (arith, x .ready .within .few-states, x .state)
+  state-few = omega (arith, x .ready .few, x .state)
 
   pub rows-few : length words ≤ 1024
   rows-few = x .ready .rows-held .many
@@ -70,12 +75,12 @@ module _ {pool words first counts sums : List ℕ} {q value : ℕ} (x : ValueRea
 
   -- the sum before a row of the state
   sum-is : (r : ℕ) → r < n → target rows r ≡ q → getD sums r 0 ≡ before rows counts q r
-  sum-is r l e = x .ready .earlier r (rw many at l) ∙ ap (λ (t : ℕ). before rows counts t r) e
+  sum-is r l e = sum-held (x .ready) q used r l e
 
   -- a link of the state that leads to a row
   module _ {m p : ℕ} (l : TargetLink rows q m n p) where
     passed : before rows counts q (leads p n) ≡ before rows counts q m
-    passed = earlier-skip rows counts [] q m (leads p n) (l .from) (l .within) (l .gap)
+    passed = earlier-skip rows (held counts) q m (leads p n) (l .from) (l .within) (l .gap)
 
     module _ (pos : 0 < p) where
       link-inside : p - 1 < n
@@ -130,7 +135,7 @@ module _ {pool words first counts sums : List ℕ} {q value : ℕ} (x : ValueRea
         mine = e;
         found = find-row rows counts q value r b (omega arith) ∙ (λ i. record { which = r; rest = value - sym s i });
         is = refl;
-        weighs = omega (arith, earlier-more rows counts [] q r l e);
+        weighs = omega (arith, earlier-more rows (held counts) q r l e);
         falls = omega arith;
       }
 
@@ -172,7 +177,7 @@ module _ {pool words first counts sums : List ℕ} {q value : ℕ} (x : ValueRea
       last-sum : held counts q ≡ before rows counts q (suc r)
       last-sum =
           let z : p ≡ 0 = omega arith in
-          counts-held (x .ready) .state q (x .state) ∙ sym (all-earlier rows counts [] q) ∙ none-left (w .link) z
+          state-held (x .ready) q used ∙ sym (all-earlier rows (held counts) q) ∙ none-left (w .link) z
 
       pub opens-last : Opening words sums r (held counts q) value
       opens-last = opens r _ (w .inside) (w .mine) (w .begins) (x .less)

@@ -1,23 +1,26 @@
 -- The entries of the tree of a value, row by row and child by child. Assumes nothing.
 use Prim.Native.Nat.{ℕ, suc, _/_, _%_, _<_, _≤_}
-use mathlib.Core.Path.{_≡_, refl, sym, ap, _∙_}
+use mathlib.Core.Path.{_≡_, refl, sym, ap, subst, _∙_}
 use mathlib.Core.List.{List, [], _∷_, _++_, map, append-assoc}
 use native.Mathlib.Omega.{arith}
 use lib.ListN.{length, getD}
 use Rattle.model.specs.Table.{Row, noRow}
 use Rattle.model.specs.Tree.{Forest, Tree, empty, node, serialForest, serial}
+use Rattle.model.specs.Reach.{Reaches}
 use Rattle.model.specs.Count.{sum, rowCounts, weight}
 use Rattle.model.specs.Value.{Picked, findBy, childrenFrom, treeIn}
 use Rattle.model.proofs.Good.{Ordered}
 use Rattle.model.proofs.Longest.{forest-most}
-use Rattle.model.proofs.Values.{children-none, children-next, depth-free, tree-valued}
+use Rattle.model.proofs.Values.{children-none, children-next, depth-free}
+use Rattle.model.proofs.UsedValues.{tree-reaches}
 use Rattle.rows.specs.Words.{symbolIn, argsIn, rowIn, rowsIn, rowNo, heldTable}
 use Rattle.rows.proofs.Words.{row-held}
 use Rattle.counts.specs.States.{held}
+use Rattle.counts.proofs.Prepared.{as-counted}
 use Rattle.unrank.specs.declared.Entered.{Entered}
 use Rattle.unrank.specs.UnrankReady.{ValueReady}
 use Rattle.unrank.specs.Trees.{Enters, valueEntries}
-use Rattle.unrank.proofs.UnrankReady.{counts-held}
+use Rattle.unrank.proofs.UnrankReady.{used-here}
 
 -- the entries of the children from some on
 unfoldable pub kidsIn : (rows : List Row) (counts : List ℕ) (q : ℕ) (args : List ℕ) (w h : ℕ) → List ℕ
@@ -86,5 +89,7 @@ unfolding valueEntries serial sum
 short {pool} {words} {counts = counts} {q} {value} x =
     let T = heldTable (x .states) pool words (x .accepting) in
     let good = x .ready .good in
-    let t = tree-valued T (good .sound) (held counts) (counts-held (x .ready)) (good .ordered) (suc q) q value (omega arith) (x .state) (x .less) in
-    omega (arith, forest-most T good (t .reaches), x .ready .within .small-trees q (x .state))
+    let e = as-counted (x .ready .counted) in
+    let r : Reaches (T .rows) (treeIn (T .rows) (held counts) (suc q) q value) q
+    = subst (λ (c : ℕ → ℕ). Reaches (T .rows) (treeIn (T .rows) c (suc q) q value) q) (sym e) (tree-reaches T good (suc q) q value (omega arith) (omega (arith, x .less, x .ready .counted .counted q))) in
+    omega (arith, forest-most T good r, x .ready .short q (used-here (x .ready) q value (x .less)))

@@ -1,58 +1,47 @@
 -- A table that passes, with what its check leaves. Assumes nothing.
 use Prim.Native.Nat.{ℕ, _<_}
 use mathlib.Core.Path.{_≡_, sym, ap, _∙_}
+use mathlib.Core.Bool.{true}
 use mathlib.Core.List.{List, map}
 use native.Mathlib.Omega.{arith}
 use lib.ListN.{length, getD}
-use Rattle.model.specs.Table.{Table}
-use Rattle.model.specs.Count.{Counts, sum, count, total}
+use Rattle.model.specs.Table.{Row, Table}
+use Rattle.model.specs.Count.{sum, weight, stateCounts, count}
 use Rattle.model.specs.Value.{earlierRows}
-use Rattle.model.specs.Check.{countLimit}
-use Rattle.model.proofs.Good.{Good, Within}
-use Rattle.model.proofs.Counting.{map-agree, stateCounts-local, count-eqn, total-is}
-use Rattle.rows.specs.Words.{rowsIn, afters, Held, heldTable}
-use Rattle.rows.proofs.Words.{rows-long}
-use Rattle.counts.specs.Chain.{target, Chained}
-use Rattle.counts.specs.States.{held, rowTable, CountsKnown, CountRoom}
-use Rattle.counts.proofs.All.{count-same, earlier-local}
+use Rattle.model.specs.Used.{isUsed}
+use Rattle.model.proofs.Counting.{count-eqn}
+use Rattle.model.proofs.Used.{used-state}
+use Rattle.model.proofs.UsedValues.{count-used, used-just, weights-used, earlier-used}
+use Rattle.rows.specs.Words.{rowsIn, heldTable}
+use Rattle.counts.specs.Chain.{target}
+use Rattle.counts.specs.States.{held}
+use Rattle.counts.proofs.Prepared.{as-counted, sum-used}
 use Rattle.unrank.specs.UnrankReady.{UnrankReady}
 
 module _ {states : ℕ} {pool words accepting first counts sums : List ℕ} (x : UnrankReady states pool words accepting first counts sums) where
   abbrev T : Table
   T = heldTable states pool words accepting
 
-  -- what is held satisfies the equations of counts
-  pub counts-held : Counts T (held counts)
-  counts-held = record {
-    state = λ q l.
-        x .counted q l
-        ∙ count-eqn T (x .good .ordered) q l
-        ∙ stateCounts-local (T .rows) (x .good .ordered) (count T) (held counts) q (λ a m. sym (x .counted a (omega arith)));
-  }
+  abbrev rows : List Row
+  rows = rowsIn pool words
 
-  -- and the total is their sum over the accepting list
-  pub total-held : total T ≡ sum (map (held counts) accepting)
-  total-held = total-is T ∙ ap sum (map-agree (count T) (held counts) 0 accepting (λ i l. sym (x .counted (getD accepting i 0) (x .good .sound .listed i l))))
+  -- a state in which there is a value is used
+  pub used-here : (q value : ℕ) → value < held counts q → isUsed T q ≡ true
+  used-here q value l = used-just T (x .good) q (omega (arith, x .counted .counted q))
 
--- what the parts of the check leave of a table that passes
-pub ready : (states : ℕ) (pool words accepting first cs ls sums : List ℕ) → Good (heldTable states pool words accepting) → Within countLimit (heldTable states pool words accepting)
-    → Held pool words (length words) → Chained (rowsIn pool words) first (afters words) → CountRoom states (rowsIn pool words) first cs ls sums
-    → CountsKnown states (rowsIn pool words) states cs ls sums → UnrankReady states pool words accepting first cs sums
-ready states pool words accepting first cs ls sums good within h chained room known = record {
-  good = good;
-  within = within;
-  rows-held = h;
-  chained = chained;
-  first-room = room .first-room;
-  counts-room = room .cs-room;
-  sums-room = omega (arith, room .sums-room, rows-long pool words);
-  counted = λ a l. known .counts a l ∙ count-same states (rowsIn pool words) accepting a;
-  earlier = λ k l. sums-are k (rw (rows-long pool words) l);
-}
-  where
-    sums-are : (k : ℕ) → k < length (rowsIn pool words) → getD sums k 0 ≡ earlierRows (rowsIn pool words) (held cs) (target (rowsIn pool words) k) k
-    sums-are k l =
-        let t = good .sound .targets k l in
-        known .earlier k l t
-        ∙ earlier-local (rowsIn pool words) (good .ordered) (count (rowTable states (rowsIn pool words))) (held cs) (target (rowsIn pool words) k) k
-        (λ a m. sym (known .counts a (omega arith)))
+  module _ (q : ℕ) (u : isUsed T q ≡ true) where
+    -- its rows count together what it counts
+    pub state-held : held counts q ≡ stateCounts rows (held counts) q
+    unfolding stateCounts
+    state-held =
+        x .counted .counted q ∙ count-used T q u ∙ count-eqn T (x .good .ordered) q (used-state T q u)
+        ∙ ap sum (sym (weights-used T (x .good) q u))
+        ∙ ap (λ (c : ℕ → ℕ). sum (map (weight c q) rows)) (sym (as-counted (x .counted)))
+
+    -- the sum before one of its rows
+    pub sum-held : (k : ℕ) → k < length rows → target rows k ≡ q → getD sums k 0 ≡ earlierRows rows (held counts) q k
+    sum-held k l e =
+        sum-used (x .counted) k l (ap (isUsed T) e ∙ u)
+        ∙ ap (λ (t : ℕ). earlierRows rows (count T) t k) e
+        ∙ sym (earlier-used T (x .good) q k u)
+        ∙ ap (λ (c : ℕ → ℕ). earlierRows rows c q k) (sym (as-counted (x .counted)))

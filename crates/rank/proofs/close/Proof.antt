@@ -5,7 +5,7 @@ use lib.ListN.{length}
 use Rattle.chains.specs.declared.Found.the-variants.{At}
 use Rattle.rows.specs.Words.{rowsIn}
 use Rattle.index.specs.Index.{rowFound}
-use Rattle.rank.proofs.Folding.{found-inside, node-reaches, node-stuck, closable-folds, closable-fits}
+use Rattle.rank.proofs.Folding.{found-inside, node-forms, node-reaches, node-stuck}
 use borrow.Author.Needs.{needs}
 use Rattle.rank.proofs.close.Statement.{statement}
 use Rattle.rank.proofs.close.Tie as tie
@@ -23,20 +23,11 @@ mul-target-in c = omega (arith, inside c, c .before .before .before .before .bef
 shared-slice-read-target-in : tie.Need-shared-slice-read-target-in
 shared-slice-read-target-in c = inside (c .before)
 
-fold-requires : tie.Need-fold-requires
-fold-requires c κs = closable-folds (c .before .before .before .before .before .before .before .before .before .before .before .before .before .pre .1 .1 .1) _ (found (c .before .before))
-
-mul-t18 : tie.Need-mul-t18
-mul-t18 c = omega (arith, inside (c .before .before .before), c .before .before .before .before .before .before .before .before .before .before .before .before .before .before .pre .0 .many)
-
-shared-slice-read-t20 : tie.Need-shared-slice-read-t20
-shared-slice-read-t20 c = omega (arith, inside (c .before .before .before .before), c .before .before .before .before .before .before .before .before .before .before .before .before .before .before .before .pre .1 .1 .0)
-
-add-t21 : tie.Need-add-t21
-add-t21 c = omega (arith, closable-fits (c .before .before .before .before .before .before .before .before .before .before .before .before .before .before .before .pre .1 .1 .1) _ (found (c .before .before .before .before)) _ (c .before .fold .ensures))
+value-in-requires : tie.Need-value-in-requires
+value-in-requires c κs = node-forms (c .before .before .before .before .before .before .before .before .before .before .before .before .before .args .pool .now) (c .before .before .before .before .before .before .before .before .before .before .before .before .before .args .words .now) _ _ _ (found (c .before .before)) (c .before .before .before .before .before .before .before .before .before .before .before .before .before .args .counts .now) (c .before .before .before .before .before .before .before .before .before .before .before .before .before .args .sums .now) (c .before .before .before .before .before .before .before .before .before .before .before .before .before .args .values .now) (c .before .before .before .before .before .before .before .before .before .before .before .before .before .pre .1 .1) _ (c .target-in .ensures)
 
 returns : tie.Need-returns
-returns c = node-reaches (c .before .before .before .before .before .before .before .before .before .before .before .before .before .before .before .args .pool .now) (c .before .before .before .before .before .before .before .before .before .before .before .before .before .before .before .args .words .now) _ _ _ (found (c .before .before .before .before)) (c .before .before .before .before .before .before .before .before .before .before .before .before .before .before .before .args .counts .now) (c .before .before .before .before .before .before .before .before .before .before .before .before .before .before .before .args .sums .now) (c .before .before .before .before .before .before .before .before .before .before .before .before .before .before .before .args .values .now) _ _ (c .before .before .target-in .ensures) (c .before .fold .ensures)
+returns c = node-reaches (c .before .before .before .before .before .before .before .before .before .before .before .before .before .before .args .pool .now) (c .before .before .before .before .before .before .before .before .before .before .before .before .before .before .args .words .now) _ _ _ (found (c .before .before .before)) (c .before .before .before .before .before .before .before .before .before .before .before .before .before .before .args .counts .now) (c .before .before .before .before .before .before .before .before .before .before .before .before .before .before .args .sums .now) (c .before .before .before .before .before .before .before .before .before .before .before .before .before .before .args .values .now) _ _ (c .before .target-in .ensures) (c .value-in .ensures)
 
 returns-2 : tie.Need-returns-2
 returns-2 c = node-stuck _ _ _ _ _ _ (sym (c .before .before .find-row .ensures) ∙ c .enum-told .given .1)
@@ -49,10 +40,7 @@ close-spec =
     mul-target-in
     shared-slice-read-target-in
     (λ c κs. search needs)
-    fold-requires
-    mul-t18
-    shared-slice-read-t20
-    add-t21
+    value-in-requires
     (λ c. search needs)
     returns
     returns-2)

@@ -11,7 +11,7 @@ use borrow.Author.Needs.{needs}
 use Rattle.rank.proofs.number_tree.Tie as tie
 
 abbrev Inv-loop : tie.InvT-loop
-Inv-loop pool accepting tree words heads by counts sums opens₀ begins₀ waiting₀ values₀ w₀ s₀ i₀ opens begins waiting values w s i = Running pool words accepting counts sums tree opens₀ begins₀ waiting₀ values₀ opens begins waiting values w s i
+Inv-loop pool accepting tree words heads by counts sums opens₀ begins₀ waiting₀ values₀ w₀ s₀ i₀ opens begins waiting values w s i = Running by pool words heads accepting counts sums tree opens₀ begins₀ waiting₀ values₀ opens begins waiting values w s i
 
 abbrev μ-loop : tie.MeasureT-loop
 μ-loop pool accepting tree words heads by counts sums opens₀ begins₀ waiting₀ values₀ w₀ s₀ i₀ opens begins waiting values w s i = length tree - i
@@ -37,7 +37,7 @@ room : (c : tie.After-wide Inv-loop μ-loop) → (c .wide .result < length (c .b
 room c = close-room (c .before .before .before .before .before .before .before .before .loop .inv) (c .before .before .before .before .before .before .before .loop-test .taken) _ (closes-step (c .before .before)) _ (c .wide .ensures)
 
 loop-holds : tie.Need-loop-holds Inv-loop μ-loop
-loop-holds c = running-begins _ _ _ _ _ _ _ _ _ _ _ (c .before .before .before .before .before .before .before .before .before .before .before .before .pre .1 .1) (c .new .ensures)
+loop-holds c = running-begins _ _ _ _ _ _ (c .before .before .before .before .before .before .before .before .before .before .before .before .pre .0) (c .before .before .before .before .before .before .before .before .before .before .before .before .pre .1 .1) (c .new .ensures)
 
 entry-requires : tie.Need-entry-requires Inv-loop μ-loop
 entry-requires c κs = reads-on (c .before .before .loop .inv .reads) (c .before .loop-test .taken)
@@ -88,7 +88,7 @@ part-close-end-2 : tie.Need-part-close-end-2 Inv-loop μ-loop
 part-close-end-2 c = few-wait (c .before .before .before .before .before .before .before .before .before .before .before .before .loop .inv) .2
 
 close-requires : tie.Need-close-requires Inv-loop μ-loop
-close-requires c κs = (c .before .before .before .before .before .before .before .before .before .before .before .before .before .before .before .before .before .before .before .before .before .before .before .before .before .before .pre .0 .rows-held, (c .before .before .before .before .before .before .before .before .before .before .before .before .before .before .before .before .before .before .before .before .before .before .before .before .before .before .pre .0 .index, (c .before .before .before .before .before .before .before .before .before .before .before .before .before .before .before .before .before .before .before .before .before .before .before .before .before .before .pre .0 .sums-room, close-fits (c .before .before .before .before .before .before .before .before .before .before .before .before .before .loop .inv) (c .before .before .before .before .before .before .before .before .before .before .before .before .loop-test .taken) _ (closes-step (c .before .before .before .before .before .before .before)) _ (c .before .before .before .before .before .wide .ensures) (c .before .before .before .before .before .before .before .before .before .before .before .before .before .before .before .before .before .before .before .before .before .before .before .before .before .before .pre .0))))
+close-requires c κs = (c .before .before .before .before .before .before .before .before .before .before .before .before .before .before .before .before .before .before .before .before .before .before .before .before .before .before .pre .0 .rows-held, (c .before .before .before .before .before .before .before .before .before .before .before .before .before .before .before .before .before .before .before .before .before .before .before .before .before .before .pre .0 .index, close-fits (c .before .before .before .before .before .before .before .before .before .before .before .before .before .loop .inv) (c .before .before .before .before .before .before .before .before .before .before .before .before .loop-test .taken) _ (closes-step (c .before .before .before .before .before .before .before)) _ (c .before .before .before .before .before .wide .ensures)))
 
 store-closed-requires : tie.Need-store-closed-requires Inv-loop μ-loop
 store-closed-requires c κs = (room (c .before .before .before .before .before .before .before .before .before .before .before) .0, room (c .before .before .before .before .before .before .before .before .before .before .before) .1)
@@ -100,7 +100,7 @@ add-i-2 : tie.Need-add-i-2 Inv-loop μ-loop
 add-i-2 c = omega (arith, c .before .before .before .before .before .before .before .before .before .before .before .before .before .before .before .before .before .before .before .before .before .before .before .loop-test .taken, c .before .before .before .before .before .before .before .before .before .before .before .before .before .before .before .before .before .before .before .before .before .before .before .before .loop .inv .space .short)
 
 loop-again-2 : tie.Need-loop-again-2 Inv-loop μ-loop
-loop-again-2 c = node-closes (c .before .before .before .before .before .before .before .before .before .before .before .before .before .before .before .before .before .before .before .before .before .before .before .before .loop .inv) (c .before .before .before .before .before .before .before .before .before .before .before .before .before .before .before .before .before .before .before .before .before .before .before .loop-test .taken) _ (closes-step (c .before .before .before .before .before .before .before .before .before .before .before .before .before .before .before .before .before .before)) _ (c .before .before .before .before .before .before .before .before .before .before .before .before .before .before .before .before .wide .ensures) (c .before .before .before .before .before .before .before .before .before .before .before .before .before .before .before .before .before .before .before .before .before .before .before .before .before .before .before .before .before .before .before .before .before .before .before .before .before .pre .0) _ _ (sym (c .before .before .before .before .before .before .before .before .before .before .close .ensures) ∙ c .before .before .before .before .before .before .before .before .q .given .1) _ _ (c .before .before .before .before .store-closed .ensures)
+loop-again-2 c = node-closes (c .before .before .before .before .before .before .before .before .before .before .before .before .before .before .before .before .before .before .before .before .before .before .before .before .loop .inv) (c .before .before .before .before .before .before .before .before .before .before .before .before .before .before .before .before .before .before .before .before .before .before .before .loop-test .taken) _ (closes-step (c .before .before .before .before .before .before .before .before .before .before .before .before .before .before .before .before .before .before)) _ (c .before .before .before .before .before .before .before .before .before .before .before .before .before .before .before .before .wide .ensures) _ _ (sym (c .before .before .before .before .before .before .before .before .before .before .close .ensures) ∙ c .before .before .before .before .before .before .before .before .q .given .1) _ _ (c .before .before .before .before .store-closed .ensures)
 
 returns : tie.Need-returns Inv-loop μ-loop
 returns c = c .refused-answer .ensures ∙ node-sticks (c .before .before .before .before .before .before .before .before .before .before .before .before .before .before .before .before .before .loop .inv) (c .before .before .before .before .before .before .before .before .before .before .before .before .before .before .before .before .loop-test .taken) _ (closes-step (c .before .before .before .before .before .before .before .before .before .before .before)) _ (c .before .before .before .before .before .before .before .before .before .wide .ensures) (sym (c .before .before .before .close .ensures) ∙ c .before .enum-told .given .1)
@@ -118,7 +118,7 @@ sub-number-in : tie.Need-sub-number-in Inv-loop μ-loop
 sub-number-in c = some-read (c .before .before .before .loop .inv) (c .before .before .loop-test .left) (c .before .before .before .before .before .before .before .before .before .before .before .before .before .before .before .before .pre .1 .0)
 
 number-in-requires : tie.Need-number-in-requires Inv-loop μ-loop
-number-in-requires c κs = end-sums (c .before .before .before .loop .inv) (c .before .before .loop-test .left) (c .before .before .before .before .before .before .before .before .before .before .before .before .before .before .before .before .pre .1 .0) (c .before .before .before .before .before .before .before .before .before .before .before .before .before .before .before .before .pre .0)
+number-in-requires c κs = end-sums (c .before .before .before .loop .inv) (c .before .before .loop-test .left) (c .before .before .before .before .before .before .before .before .before .before .before .before .before .before .before .before .pre .1 .0)
 
 returns-3 : tie.Need-returns-3 Inv-loop μ-loop
 returns-3 c = c .number-in .ensures ∙ tree-ends (c .before .before .before .before .loop .inv) (c .before .before .before .loop-test .left) (c .before .before .before .before .before .before .before .before .before .before .before .before .before .before .before .before .before .pre .1 .0)

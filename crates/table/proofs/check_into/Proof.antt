@@ -15,12 +15,12 @@ returns c = refused-answer _ (c .refuse .ensures ∙ too-many _ _ _ (c .before .
 
 check-rows-requires : tie.Need-check-rows-requires
 check-rows-requires c κs =
-    let p = c .before .before .before .before .before .before .before .before .before .before .before .pre in
+    let p = c .before .before .before .before .before .before .before .before .before .before .before .before .pre in
     record { ready = record { few = c .before .before .if1 .left; room = p .room; sized = p .sized }; none-in = p .heads-empty }
 
 -- there are as many words as rows
-room : (c : tie.After-enum-told) → c .before .before .before .before .n .given .0 .0 ≤ length (c .before .before .before .before .before .before .before .before .before .before .before .before .before .before .before .before .before .before .before .before .before .before .args .words .now)
-room c = taken-room _ (c .before .before .before .before .before .before .before .before .before .before .check-rows .ensures .passed _ _ (c .before .before .before .before .n .given .1)) (c .before .before .before .before .before .before .before .before .before .before .before .before .before .before .before .before .before .before .before .before .before .before .args .words .now) (c .before .before .before .before .before .before .before .before .before .words .given)
+room : (c : tie.After-enum-told) → c .before .before .before .before .n .given .0 .0 ≤ length (c .before .before .before .before .before .before .before .before .before .before .before .before .before .before .before .before .before .before .before .before .before .before .before .args .words .now)
+room c = taken-room _ (c .before .before .before .before .before .before .before .before .before .before .check-rows .ensures .passed _ _ (c .before .before .before .before .n .given .1)) (c .before .before .before .before .before .before .before .before .before .before .before .before .before .before .before .before .before .before .before .before .before .before .before .args .words .now) (c .before .before .before .before .before .before .before .before .before .words .given)
 
 slice-relend-prefix-check-states : tie.Need-slice-relend-prefix-check-states
 slice-relend-prefix-check-states c = omega (arith, room c, c .before .before .before .before .before .before .before .before .before .words .given)
@@ -30,8 +30,8 @@ slice-aggregate-check-states c = sym (c .before .before .before .before .before 
 
 check-states-requires : tie.Need-check-states-requires
 check-states-requires c κs =
-    states-ready _ _ _ (c .before .before .before .before .before .before .before .before .before .before .before .before .before .before .before .before .before .before .if1 .left) (c .before .before .before .before .before .before .before .before .before .before .before .before .before .before .before .check-rows .ensures .passed _ _ (c .before .before .before .before .before .before .before .before .before .n .given .1))
-    (c .before .before .before .before .before .before .before .faulty-entry .ensures .none (c .before .before .before .before .before .enum-told .given .1)) (c .before .before .before .before .before .before .before .before .before .before .before .before .before .before .before .before .before .before .before .before .before .before .before .before .before .before .before .pre) (room (c .before .before .before .before .before))
+    states-ready _ _ _ (c .before .before .before .before .before .before .before .before .before .before .before .before .before .before .before .before .before .before .before .if1 .left) (c .before .before .before .before .before .before .before .before .before .before .before .before .before .before .before .before .check-rows .ensures .passed _ _ (c .before .before .before .before .before .before .before .before .before .before .n .given .1))
+    (c .before .before .before .before .before .before .before .before .faulty-entry .ensures .none (c .before .before .before .before .before .before .enum-told .given .1)) (c .before .before .before .before .before .before .before .before .before .before .before .before .before .before .before .before .before .before .before .before .before .before .before .before .before .before .before .before .before .pre) (room (c .before .before .before .before .before .before))
 
 returns-2 : tie.Need-returns-2
 returns-2 c =
@@ -47,13 +47,13 @@ returns-3 c =
 
 returns-4 : tie.Need-returns-4
 returns-4 c =
-    total-refused _ _ _ (c .before .before .before .before .before .before .before .before .before .before .before .before .before .before .before .before .before .before .before .before .before .before .before .before .before .before .before .before .before .before .before .before .if1 .left) (c .before .before .before .before .before .before .before .before .before .before .before .before .before .before .before .before .before .before .before .before .before .before .before .before .before .before .before .before .before .check-rows .ensures .passed _ _ (c .before .before .before .before .before .before .before .before .before .before .before .before .before .before .before .before .before .before .before .before .before .before .before .n .given .1))
-    (c .before .before .before .before .before .before .before .before .before .before .before .before .before .before .before .before .before .before .before .before .before .faulty-entry .ensures .none (c .before .before .before .before .before .before .before .before .before .before .before .before .before .before .before .before .before .before .before .enum-told .given .1)) (c .before .before .before .before .before .before .before .before .before .before .before .before .before .check-states .ensures) _ (c .before .r2 .given .1)
+    total-refused _ _ _ (c .before .before .before .before .before .before .before .before .before .before .before .before .before .before .before .before .before .before .before .before .before .before .before .before .before .before .before .before .before .before .before .before .before .before .before .if1 .left) (c .before .before .before .before .before .before .before .before .before .before .before .before .before .before .before .before .before .before .before .before .before .before .before .before .before .before .before .before .before .before .before .before .check-rows .ensures .passed _ _ (c .before .before .before .before .before .before .before .before .before .before .before .before .before .before .before .before .before .before .before .before .before .before .before .before .before .before .n .given .1))
+    (c .before .before .before .before .before .before .before .before .before .before .before .before .before .before .before .before .before .before .before .before .before .before .before .before .faulty-entry .ensures .none (c .before .before .before .before .before .before .before .before .before .before .before .before .before .before .before .before .before .before .before .before .before .before .enum-told .given .1)) (c .before .before .before .before .before .before .before .before .before .before .before .before .before .before .before .check-states .ensures) _ (c .before .r2 .given .1)
 
 returns-5 : tie.Need-returns-5
 returns-5 c =
-    total-passed _ _ _ (c .before .before .before .before .before .before .before .before .before .before .before .before .before .before .before .before .before .before .before .before .before .before .before .before .before .before .before .before .before .before .before .before .if1 .left) (c .before .before .before .before .before .before .before .before .before .before .before .before .before .before .before .before .before .before .before .before .before .before .before .before .before .before .before .before .before .check-rows .ensures .passed _ _ (c .before .before .before .before .before .before .before .before .before .before .before .before .before .before .before .before .before .before .before .before .before .before .before .n .given .1))
-    (c .before .before .before .before .before .before .before .before .before .before .before .before .before .before .before .before .before .before .before .before .before .faulty-entry .ensures .none (c .before .before .before .before .before .before .before .before .before .before .before .before .before .before .before .before .before .before .before .enum-told .given .1)) (c .before .before .before .before .before .before .before .before .before .before .before .before .before .check-states .ensures) _ (c .before .total .given .1) _ refl
+    total-passed _ _ _ (c .before .before .before .before .before .before .before .before .before .before .before .before .before .before .before .before .before .before .before .before .before .before .before .before .before .before .before .before .before .before .before .before .before .before .before .if1 .left) (c .before .before .before .before .before .before .before .before .before .before .before .before .before .before .before .before .before .before .before .before .before .before .before .before .before .before .before .before .before .before .before .before .check-rows .ensures .passed _ _ (c .before .before .before .before .before .before .before .before .before .before .before .before .before .before .before .before .before .before .before .before .before .before .before .before .before .before .n .given .1))
+    (c .before .before .before .before .before .before .before .before .before .before .before .before .before .before .before .before .before .before .before .before .before .before .before .before .faulty-entry .ensures .none (c .before .before .before .before .before .before .before .before .before .before .before .before .before .before .before .before .before .before .before .before .before .before .enum-told .given .1)) (c .before .before .before .before .before .before .before .before .before .before .before .before .before .before .before .check-states .ensures) _ (c .before .total .given .1) _ refl
 
 pub check-into-spec : {M : Type 1} → statement M
 check-into-spec =
@@ -71,7 +71,7 @@ check-into-spec =
     returns-2
     (λ c. search needs) (λ c. search needs)
     returns-3
-    (λ c. search needs) (λ c. search needs) (λ c. search needs) (λ c. search needs) (λ c. search needs) (λ c. search needs)
+    (λ c. search needs) (λ c. search needs) (λ c. search needs) (λ c. search needs) (λ c. search needs) (λ c. search needs) (λ c. search needs)
     returns-4
-    (λ c. search needs) (λ c. search needs) (λ c. search needs) (λ c. search needs) (λ c. search needs) (λ c. search needs)
+    (λ c. search needs) (λ c. search needs) (λ c. search needs) (λ c. search needs) (λ c. search needs) (λ c. search needs) (λ c. search needs)
     returns-5)

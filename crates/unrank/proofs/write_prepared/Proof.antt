@@ -8,7 +8,7 @@ returns : tie.Need-returns
 returns c = write-above _ _ _ _ _ _ _ (c .before .if1 .taken) (c .refused-answer .ensures)
 
 write-number-requires : tie.Need-write-number-requires
-write-number-requires c κs = record { states = c .before .before .before .before .before .before .before .before .before .pre .states; ready = c .before .before .before .before .before .before .before .before .before .pre .ready; less = omega (arith, c .before .before .before .before .before .before .before .before .before .pre .total-is, c .before .if1 .left) }
+write-number-requires c κs = record { states = c .before .before .before .before .before .before .before .before .before .pre .states; others = c .before .before .before .before .before .before .before .before .before .pre .others; listed = c .before .before .before .before .before .before .before .before .before .pre .listed; ready = c .before .before .before .before .before .before .before .before .before .pre .ready; less = omega (arith, c .before .before .before .before .before .before .before .before .before .pre .total-is, c .before .if1 .left) }
 
 returns-2 : tie.Need-returns-2
 returns-2 c = write-below _ _ _ _ _ _ _ _ (c .before .before .before .before .if1 .left) (c .before .before .write-number .ensures)

@@ -1,0 +1,7 @@
+pub mod Marks
+pub mod Walk
+pub mod Turn
+pub mod Pass
+pub mod Beyond
+pub mod Clearing
+pub mod Settling
