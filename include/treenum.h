@@ -2,7 +2,8 @@
  *
  * A table is a count of states, its rows and its accepting list. The rows stand one after another in one list;
  * a row is its symbol (1 to 255), its target state, its argument count (0 to 16), and that many argument states,
- * each below the target. Places and row numbers count from 0.
+ * each below the target. Places and row numbers count from 0. A state is used if some tree that the table accepts has a
+ * subtree reaching it; only used states are held to the limits on count and longest tree.
  *
  * A tree is a list of entries: the symbol of a node, its children one after another, then the bar, which is 0.
  *
@@ -35,7 +36,7 @@ extern "C" {
 enum {
     TREENUM_RESULT = 0,
 
-    /* checking a table: rows in turn, then the accepting list, then states in turn */
+    /* checking a table: rows in turn, then the accepting list, then used states in turn */
     TREENUM_TOO_MANY_STATES = 1,            /* more than 256 states */
     TREENUM_CUT_ROW = 2,                    /* fewer than three entries left, or fewer arguments left than counted; the row */
     TREENUM_TOO_MANY_ROWS_OR_ARGUMENTS = 3, /* a row beyond the 1,024th, or more than 16 arguments; the row */
@@ -45,8 +46,8 @@ enum {
     TREENUM_ACCEPTING_ENTRY = 7,            /* an accepting entry that is no state or equals an earlier entry; the entry */
     /* 8, which was TREENUM_ACCEPTING_TOO_LONG, is withdrawn and not used again: it was never returned, so its case can
        go. A list longer than the count of states has an entry that is no state or equals an earlier one: 7 */
-    TREENUM_COUNT_ABOVE_LIMIT = 9,          /* a state's count above 4,294,967,295; the state */
-    TREENUM_LONGEST_TREE_ABOVE_LIMIT = 10,  /* a state's longest tree above 4,096 entries; the state */
+    TREENUM_COUNT_ABOVE_LIMIT = 9,          /* a used state's count above 4,294,967,295; the state */
+    TREENUM_LONGEST_TREE_ABOVE_LIMIT = 10,  /* a used state's longest tree above 4,096 entries; the state */
     TREENUM_TOTAL_ABOVE_LIMIT = 11,         /* a total above 4,294,967,295 */
 
     /* taking a tree */
@@ -81,7 +82,7 @@ enum {
 #define TREENUM_TERM_ROOM 53248
 
 /* Checks a table. The result is its total, the count of the trees that it accepts. Refusals: 1 to 7 and 9 to 11, in
- * this order but for 2 to 6, where the first faulty row decides, and 9 and 10, where the first faulty state does. */
+ * this order but for 2 to 6, where the first faulty row decides, and 9 and 10, where the first faulty used state does. */
 uint32_t treenum_check(uint64_t states, const uint16_t *rows, size_t rows_len, const uint16_t *accepting,
                        size_t accepting_len, uint64_t *value);
 

@@ -58,6 +58,9 @@ impl Error for Refusal {}
 /// 8 (`AcceptingTooLong`) is withdrawn and not used again: it was never given. An accepting list
 /// longer than the count of states has an entry that is no state or equals an earlier one, which
 /// is 7.
+///
+/// 9 and 10 speak of used states only (document 02, request (c)): a state is used if some accepted
+/// tree has a subtree reaching it.
 #[derive(Clone, Copy, Debug, PartialEq, Eq, Hash)]
 #[non_exhaustive]
 #[repr(u32)]
@@ -76,9 +79,9 @@ pub enum Kind {
     RepeatedRow,
     /// 7: an accepting entry is no state or equals an earlier one.
     AcceptingEntry,
-    /// 9: a state counts too many trees.
+    /// 9: a used state counts too many trees.
     CountAboveLimit = 9,
-    /// 10: a state's longest tree has more than 4,096 entries.
+    /// 10: a used state's longest tree has more than 4,096 entries.
     LongestTreeAboveLimit,
     /// 11: the total is too large.
     TotalAboveLimit,
