@@ -71,7 +71,8 @@ pub record SettleReady (states : ℕ) (pool accepting words first cs ms used sum
   pub blank : (q : ℕ) → getD used q 0 ≡ 0
   pub kept : CountsKnown states (rowsIn pool words) cs ms sums
 
--- the first used state beyond a limit; or there is none: then listed states have their counts, and where it is asked for only used states have
+-- the first used state beyond a limit; or there is none: then listed states have their counts, and what is left are the counts of used states, or of
+-- all states, where it is not to prepare for numbering and no state is beyond a limit
 pub record Settled (prepare : Bool) (states : ℕ) (pool accepting words cs₀ cs sums₀ sums : List ℕ) (r : StateFault) : Type 0 where
   pub cs-long : length cs ≡ length cs₀
   pub sums-long : length sums ≡ length sums₀
