@@ -2,7 +2,7 @@
 use Prim.Native.Nat.{ℕ, suc, _+_, _<_, _≤_, min}
 use mathlib.Core.Path.{_≡_, refl, sym, ap, _∙_}
 use mathlib.Core.List.{List, map}
-use mathlib.Core.Logic.{_⊎_, inl, inr}
+use mathlib.Core.Logic.{inl, inr}
 use native.Mathlib.Omega.{arith}
 use lib.ListN.{length, getD, take, length-map}
 use lib.Seq.{take-all}
@@ -44,10 +44,6 @@ kept-within i e = omega (arith, i .is, i .small)
 
 pub kept-beyond : {k : Kept} {n : ℕ} → Is k n → (k .over ≡ 0 → ⊥) → top < n
 kept-beyond {k} i ne = omega (arith, i .is, sound-over (k .count) (k .over) (i .sound) ne)
-
--- a count above a limit of 64 bits tells that the number is
-pub kept-above : {k : Kept} {n : ℕ} (limit : ℕ) → Is k n → limit < k .count → limit < n
-kept-above limit i l = omega (arith, kept-low i)
 
 -- ---- kept counts made
 

@@ -9,7 +9,7 @@ use Rattle.counts.specs.Marks.{top, ceiling}
 abbrev pub Sound : (count over : ℕ) → Type 0
 Sound count over = (over ≡ 0) ⊎ ((over ≡ 1) × (count ≡ top))
 
--- n is kept, as count and over together: as it is where it has 64 bits, else as 2^64 (the laws `kept-within`, `kept-beyond`, `kept-above`)
+-- n is kept, as count and over together: as it is where it has 64 bits, else as 2^64 (the laws `kept-within`, `kept-beyond`)
 pub record Is (k : Kept) (n : ℕ) : Type 0 where
   pub sound : Sound (k .count) (k .over)
   pub small : k .count ≤ top

@@ -17,8 +17,8 @@ ghost use Rattle.term.specs.Written.{Put};
 ghost use Rattle.line.specs.Lines.{isDigit, decimal, printed, answerNumber, answerTerm, answerTo, outputFor};
 ghost use Rattle.line.specs.Held.{beyond, longestLine, Holds, Holding, Begins, part, Prints};
 
-// Above every total: this stands for every number from here up.
-const BEYOND: u64 = 4294967296;
+// Below no total: this, the largest number of 64 bits, stands for every number from here up.
+const BEYOND: u64 = 18446744073709551615;
 
 // The most bytes that answer one line.
 const LONGEST_LINE: usize = 53249;
@@ -72,13 +72,10 @@ fn still_digits(digits: bool, b: u8) -> bool
 fn with_digit(value: u64, b: u8) -> u64
     ensures { λ r. ⌜ (isDigit b ≡ true → r ≡ min (value * 10 + (b - 48)) beyond) ⌝ }
 {
-    if BEYOND <= value {
-        return BEYOND;
-    }
     if is_digit(b) {
-        let next = value * 10 + (b - b'0') as u64;
-        if next < BEYOND {
-            return next;
+        let digit = (b - b'0') as u64;
+        if value <= (BEYOND - digit) / 10 {
+            return value * 10 + digit;
         }
     }
     BEYOND

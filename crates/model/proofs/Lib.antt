@@ -25,7 +25,9 @@ pub mod CheckRefusals
 pub mod Stuck
 pub mod Entries
 pub mod Demand3
+pub mod Conserved
 pub mod HalfDrawn
+pub mod SixtyFour
 pub mod Bytes
 pub mod Alike
 pub mod Scan

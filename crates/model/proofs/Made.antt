@@ -26,7 +26,7 @@ use Rattle.model.proofs.Choice.{and-both}
 use Rattle.model.proofs.TreeRefusals.{number-refuses, tree-refuses}
 use Rattle.model.proofs.TermExamples.{ab, leaves, wide, tree-4098}
 use Rattle.model.proofs.TableExamples.{leaf}
-use Rattle.model.proofs.Edges.{row, power, two, below-above, even, lengths}
+use Rattle.model.proofs.Edges.{row, power, two, below-32, below-above, even, lengths}
 
 -- each of the numbers has the property
 infixr 5 _also_
@@ -51,7 +51,7 @@ abbrev table : (states : ℕ) (rows accepting : List ℕ) → LentTable
 table states rows accepting = record { states = states; rows = rows; accepting = accepting }
 
 check-made : Each (CanBeMade checking) checkNumbers
-unfolding power two below-above even lengths leaf checkOutcome checkWithin firstFaulty refuseOn anyBelow rowStart howMany howManyRows firstRows rowsOf sameBy rowIs sum product weight stateCounts grow count total largest rowLongest stateLongest longest allBelow cut tooMany outOfRange notBelow repeated rowGround acceptingGround limitGround stateGround entryOf stateUsed growDown isUsed
+unfolding power two below-32 below-above even lengths leaf checkOutcome checkWithin firstFaulty refuseOn anyBelow rowStart howMany howManyRows firstRows rowsOf sameBy rowIs sum product weight stateCounts grow count total largest rowLongest stateLongest longest allBelow cut tooMany outOfRange notBelow repeated rowGround acceptingGround limitGround stateGround entryOf stateUsed growDown isUsed
 check-made =
     -- 1 to 7
     (table 257 [] [], refl, 0, refl)
@@ -61,10 +61,10 @@ check-made =
     also (table 1 (row 1 0 (0 ∷ [])) [], refl, 0, refl)
     also (table 1 (leaf ++ leaf) [], refl, 1, refl)
     also (table 0 [] (0 ∷ []), refl, 0, refl)
-    -- 9 to 11: "two with 65,536"; "one leaf more"; 4,294,967,295 trees and two
-    also (table 3 (even ++ row 5 2 (1 ∷ 1 ∷ [])) (2 ∷ []), refl, 2, refl)
+    -- 9 to 11: "twice 4,294,967,296"; "one leaf more"; 18,446,744,073,709,551,615 trees and two
+    also (table 4 (even ++ row 6 3 (2 ∷ 2 ∷ [])) (3 ∷ []), refl, 3, refl)
     also (table 4 (lengths ++ row 1 3 (replicate 7 2 ++ replicate 8 1 ++ 0 ∷ [])) (3 ∷ []), refl, 3, refl)
-    also (table 4 (below-above ++ row 5 3 (1 ∷ 2 ∷ [])) (3 ∷ 0 ∷ []), refl, 0, refl)
+    also (table 6 (below-above ++ row 9 5 (3 ∷ 4 ∷ [])) (5 ∷ 0 ∷ []), refl, 0, refl)
     also all
 
 -- "It first refuses as the check does."

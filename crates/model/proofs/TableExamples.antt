@@ -21,7 +21,7 @@ use Rattle.model.specs.Entries.{openAfter, entryGround, endsTooSoon, for
 use Rattle.model.specs.Number.{reachesNone, stuckThen, acceptedThen, numberTree, numberOutcome}
 use Rattle.model.specs.Write.{treeEntries, writeTree, writeTreeList, entriesFor, writeOutcome, writeList}
 use Rattle.model.proofs.Choice.{if-yes, if-no, no-fault, or-right}
-use Rattle.model.proofs.Edges.{row, power, two, below-above, even, lengths}
+use Rattle.model.proofs.Edges.{row, power, two, below-32, below-above, even, lengths}
 
 -- a table checked, a tree numbered, and a number's tree written into a lent list; the answer due, and what the lent list is then to hold
 data Example : Type 0 where
@@ -97,45 +97,56 @@ rows-hold = refl
 both : List ℕ
 both = lengths ++ row 2 3 [] ++ row 3 3 [] ++ row 3 4 (replicate 16 3)
 
--- `below-above`, then 4,294,967,296 trees in state 3
+-- the largest count that passes, in state 5: the product of 4,294,967,295 and 4,294,967,297; and one tree more
+most : List ℕ
+most = below-above ++ row 9 5 (3 ∷ 4 ∷ [])
+
 big : List ℕ
-big = below-above ++ row 5 3 (1 ∷ 2 ∷ []) ++ row 6 3 []
+big = most ++ row 10 5 []
 
 limits : List Example
 limits =
     -- 9: a state's sum decides, and not one row
-    checks 4 big (3 ∷ []) (refused 9 3)
-    -- "Only used states are held to the limits": the same table where no accepted tree has a tree of state 3, and a state that counts 2 ^ 256
-    ∷ checks 4 big [] (result 0)
-    ∷ checks 4 big (1 ∷ []) (result 65535)
-    ∷ checks 3 (even ++ row 5 2 (replicate 16 1)) (1 ∷ []) (result 65536)
-    -- used as an argument; state 4 is empty: the row that names state 3 beside it counts 0, and being listed is not enough
-    ∷ checks 5 (big ++ row 7 4 (3 ∷ [])) (4 ∷ []) (refused 9 3)
-    ∷ checks 6 (big ++ row 7 5 (3 ∷ 4 ∷ [])) (0 ∷ 5 ∷ 4 ∷ []) (result 2)
+    checks 6 big (5 ∷ []) (refused 9 5)
+    -- "Only used states are held to the limits": the same table where no accepted tree has a tree of state 5, and a state that counts 2 ^ 512
+    ∷ checks 6 big [] (result 0)
+    ∷ checks 6 big (1 ∷ []) (result 65535)
+    ∷ checks 4 (even ++ row 6 3 (replicate 16 2)) (1 ∷ []) (result 65536)
+    -- used as an argument; state 6 is empty: the row that names state 5 beside it counts 0, and being listed is not enough
+    ∷ checks 7 (big ++ row 11 6 (5 ∷ [])) (6 ∷ []) (refused 9 5)
+    ∷ checks 8 (big ++ row 11 7 (5 ∷ 6 ∷ [])) (0 ∷ 7 ∷ 6 ∷ []) (result 2)
     -- a row above an unused state makes none used
-    ∷ checks 6 (big ++ row 7 4 (3 ∷ []) ++ row 7 5 (4 ∷ [])) (2 ∷ []) (result 65537)
+    ∷ checks 8 (big ++ row 11 6 (5 ∷ []) ++ row 11 7 (6 ∷ [])) (2 ∷ []) (result 65537)
     -- before 10 within a state; the first faulty state decides
-    ∷ checks 6 (both ++ row 5 5 (4 ∷ 4 ∷ []) ++ row 5 5 (replicate 8 2)) (5 ∷ []) (refused 9 5)
-    ∷ checks 7 (both ++ row 5 5 (replicate 8 2) ++ row 5 6 (4 ∷ 4 ∷ [])) (6 ∷ 5 ∷ []) (refused 10 5)
-    ∷ checks 7 (both ++ row 5 5 (4 ∷ 4 ∷ []) ++ row 5 6 (replicate 8 2)) (6 ∷ 5 ∷ []) (refused 9 5)
+    ∷ checks 6 (both ++ row 5 5 (replicate 4 4) ++ row 5 5 (replicate 8 2)) (5 ∷ []) (refused 9 5)
+    ∷ checks 7 (both ++ row 5 5 (replicate 8 2) ++ row 5 6 (replicate 4 4)) (6 ∷ 5 ∷ []) (refused 10 5)
+    ∷ checks 7 (both ++ row 5 5 (replicate 4 4) ++ row 5 6 (replicate 8 2)) (6 ∷ 5 ∷ []) (refused 9 5)
     -- of those that are used
-    ∷ checks 7 (both ++ row 5 5 (replicate 8 2) ++ row 5 6 (4 ∷ 4 ∷ [])) (6 ∷ []) (refused 9 6)
-    ∷ checks 7 (both ++ row 5 5 (4 ∷ 4 ∷ []) ++ row 5 6 (replicate 8 2)) (6 ∷ []) (refused 10 6)
+    ∷ checks 7 (both ++ row 5 5 (replicate 8 2) ++ row 5 6 (replicate 4 4)) (6 ∷ []) (refused 9 6)
+    ∷ checks 7 (both ++ row 5 5 (replicate 4 4) ++ row 5 6 (replicate 8 2)) (6 ∷ []) (refused 10 6)
     ∷ checks 6 (both ++ row 5 5 (replicate 8 2)) (2 ∷ []) (result 1)
     -- 10: a row that counts 0 has no longest tree
     ∷ checks 7 (both ++ row 5 6 (5 ∷ replicate 8 2)) (6 ∷ []) (result 0)
-    -- 11; 7 comes before 9
-    ∷ checks 4 (below-above ++ row 5 3 (1 ∷ 2 ∷ [])) (3 ∷ 0 ∷ []) (refused 11 0)
-    ∷ checks 4 (even ++ row 5 2 (1 ∷ 1 ∷ [])) (3 ∷ 4 ∷ []) (refused 7 1)
+    -- 11, of the sum, though no state is beyond the limit: 2 ^ 64 + 1, and 2 ^ 64; one less passes
+    ∷ checks 6 most (5 ∷ 0 ∷ []) (refused 11 0)
+    ∷ checks 7 (most ++ row 10 6 []) (6 ∷ 5 ∷ []) (refused 11 0)
+    ∷ checks 7 (below-above ++ row 9 6 (3 ∷ 3 ∷ []) ++ row 9 5 (3 ∷ []) ++ row 10 5 (3 ∷ [])) (5 ∷ 6 ∷ []) (result 18446744073709551615)
+    -- 7 comes before 9
+    ∷ checks 4 (even ++ row 6 3 (2 ∷ 2 ∷ [])) (3 ∷ 4 ∷ []) (refused 7 1)
     ∷ []
 
 limits-hold : map given limits ≡ map due limits
-unfolding power two below-above even lengths both big limits checkOutcome checkWithin firstFaulty refuseOn anyBelow rowStart howMany howManyRows firstRows rowsOf sameBy rowIs sum product weight stateCounts grow count total largest rowLongest stateLongest longest allBelow cut tooMany outOfRange notBelow repeated rowGround acceptingGround limitGround stateGround entryOf stateUsed growDown isUsed
+unfolding power two below-32 below-above even lengths both most big limits checkOutcome checkWithin firstFaulty refuseOn anyBelow rowStart howMany howManyRows firstRows rowsOf sameBy rowIs sum product weight stateCounts grow count total largest rowLongest stateLongest longest allBelow cut tooMany outOfRange notBelow repeated rowGround acceptingGround limitGround stateGround entryOf stateUsed growDown isUsed
 limits-hold = refl
 
 -- a leaf in state 0; in state 1 a node with one leaf, and one with two; state 2 is reached by a node of those, and is not listed
 small : List ℕ
 small = leaf ++ row 2 1 (0 ∷ []) ++ row 2 1 (0 ∷ 0 ∷ []) ++ row 3 2 (1 ∷ 1 ∷ [])
+
+-- the last tree of state 5 of `most`
+lastTree : List ℕ
+lastTree =
+    9 ∷ 5 ∷ 3 ∷ 2 ∷ 0 ∷ 2 ∷ 0 ∷ 2 ∷ 0 ∷ 2 ∷ 0 ∷ 2 ∷ 0 ∷ 2 ∷ 0 ∷ 2 ∷ 0 ∷ 2 ∷ 0 ∷ 2 ∷ 0 ∷ 2 ∷ 0 ∷ 2 ∷ 0 ∷ 2 ∷ 0 ∷ 2 ∷ 0 ∷ 2 ∷ 0 ∷ 2 ∷ 0 ∷ 0 ∷ 4 ∷ 0 ∷ 0 ∷ 8 ∷ 0 ∷ 0 ∷ []
 
 numbered : List Example
 numbered =
@@ -146,10 +157,12 @@ numbered =
     -- the last child changes fastest
     ∷ numbers 3 small (2 ∷ []) (3 ∷ 2 ∷ 1 ∷ 0 ∷ 0 ∷ 2 ∷ 1 ∷ 0 ∷ 1 ∷ 0 ∷ 0 ∷ 0 ∷ []) (result 1)
     ∷ numbers 3 small (2 ∷ []) (3 ∷ 2 ∷ 1 ∷ 0 ∷ 1 ∷ 0 ∷ 0 ∷ 2 ∷ 1 ∷ 0 ∷ 0 ∷ 0 ∷ []) (result 2)
+    -- the largest number that a table gives
+    ∷ numbers 6 most (5 ∷ []) lastTree (result 18446744073709551614)
     -- the check's refusals come first
     ∷ numbers 257 [] [] (256 ∷ []) (refused 1 0)
     ∷ numbers 1 (leaf ++ 1 ∷ []) [] (replicate 4097 1) (refused 2 1)
-    ∷ numbers 3 (even ++ row 5 2 (1 ∷ 1 ∷ [])) (2 ∷ []) [] (refused 9 2)
+    ∷ numbers 4 (even ++ row 6 3 (2 ∷ 2 ∷ [])) (3 ∷ []) [] (refused 9 3)
     -- 12: before 13, and of a tree too
     ∷ numbers 1 leaf (0 ∷ []) (replicate 4097 0) (refused 12 0)
     ∷ numbers 1 leaf (0 ∷ []) (replicate 4096 0) (refused 13 0)
@@ -175,7 +188,7 @@ numbered =
     ∷ []
 
 numbered-hold : map given numbered ≡ map due numbered
-unfolding power two even leaf small numbered checkOutcome checkWithin firstFaulty refuseOn anyBelow rowStart howMany howManyRows firstRows rowsOf sameBy rowIs sum product weight stateCounts grow count total largest rowLongest stateLongest longest allBelow cut tooMany outOfRange notBelow repeated rowGround acceptingGround limitGround stateGround stateUsed growDown isUsed serialForest serial rowWith statesOf entryOf horner earlierRows rowValue valuesOf numberOf openAfter entryGround endsTooSoon formThen treeThen levelsOf treeFrom reachesNone stuckThen acceptedThen numberTree numberOutcome
+unfolding power two below-32 below-above even leaf small most lastTree numbered checkOutcome checkWithin firstFaulty refuseOn anyBelow rowStart howMany howManyRows firstRows rowsOf sameBy rowIs sum product weight stateCounts grow count total largest rowLongest stateLongest longest allBelow cut tooMany outOfRange notBelow repeated rowGround acceptingGround limitGround stateGround stateUsed growDown isUsed serialForest serial rowWith statesOf entryOf horner earlierRows rowValue valuesOf numberOf openAfter entryGround endsTooSoon formThen treeThen levelsOf treeFrom reachesNone stuckThen acceptedThen numberTree numberOutcome
 numbered-hold = refl
 
 written : List Example
@@ -192,10 +205,13 @@ written =
     ∷ writes 3 small (1 ∷ 0 ∷ []) 3 (replicate 2 7) (refused 15 0) (replicate 2 7)
     ∷ writes 3 small (1 ∷ 0 ∷ []) 4294967296 [] (refused 15 0) []
     ∷ writes 3 small (1 ∷ 3 ∷ []) 4294967296 (replicate 2 7) (refused 7 1) (replicate 2 7)
+    -- the largest number that a table gives, and the one after it, which is the total here and is 15 in every table that passes
+    ∷ writes 6 most (5 ∷ []) 18446744073709551614 (replicate 41 7) (result 40) (lastTree ++ 7 ∷ [])
+    ∷ writes 6 most (5 ∷ []) 18446744073709551615 (replicate 41 7) (refused 15 0) (replicate 41 7)
     ∷ []
 
 written-hold : map given written ≡ map due written
-unfolding leaf small written checkOutcome checkWithin firstFaulty refuseOn anyBelow rowStart howMany howManyRows firstRows rowsOf sameBy rowIs sum product weight stateCounts grow count total largest rowLongest stateLongest longest allBelow cut tooMany outOfRange notBelow repeated rowGround acceptingGround limitGround stateGround entryOf stateUsed growDown isUsed serialForest serial findBy childrenFrom treeIn treeOf treeEntries writeTree writeTreeList entriesFor writeOutcome writeList
+unfolding power two below-32 below-above leaf small most lastTree written checkOutcome checkWithin firstFaulty refuseOn anyBelow rowStart howMany howManyRows firstRows rowsOf sameBy rowIs sum product weight stateCounts grow count total largest rowLongest stateLongest longest allBelow cut tooMany outOfRange notBelow repeated rowGround acceptingGround limitGround stateGround entryOf stateUsed growDown isUsed serialForest serial findBy childrenFrom treeIn treeOf treeEntries writeTree writeTreeList entriesFor writeOutcome writeList
 written-hold = refl
 
 -- ---- "A list that is no tree can open more": nodes that are opened and not closed, up to 4,096 of them

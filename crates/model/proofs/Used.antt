@@ -1,12 +1,12 @@
 -- Which states are used: the function says what the sentence says, for every good table, within the limits or not.
-use Prim.Native.Nat.{ℕ, zero, suc, _+_, _-_, _≤_, _<_, suc-le-suc}
+use Prim.Native.Nat.{ℕ, zero, suc, _+_, _-_, _*_, _≤_, _<_, suc-le-suc}
 use mathlib.Core.Path.{_≡_, refl, ap, sym, _∙_, subst}
 use mathlib.Core.Bool.{Bool, true, false, _&&_, _||_}
 use mathlib.Core.List.{List, [], _∷_, map}
 use mathlib.Core.Logic.{_⊎_, inl, inr, _↔_}
 use native.Mathlib.Omega.{arith}
 use native.Mathlib.Decide.{decLe}
-use native.Mathlib.Nat.{not-suc-le-zero, le-of-suc-le-suc, eq-or-lt-of-le, lt-of-not-le}
+use native.Mathlib.Nat.{not-suc-le-zero, le-of-suc-le-suc, le-mul-of-pos-right, mul-comm, eq-or-lt-of-le, lt-of-not-le}
 use lib.ListN.{length, getD, List·getD-eq-default}
 use lib.Dec.{ltb}
 use borrow.Author.Tests.{ltb-true, lt-ltb}
@@ -14,12 +14,12 @@ use Rattle.model.specs.Choice.{anyBelow}
 use Rattle.model.specs.Table.{Row, Table, IsRow, noRow}
 use Rattle.model.specs.Tree.{Forest, Tree, empty, node}
 use Rattle.model.specs.Reach.{Reach, none, row, Reaches, Accepted, entryOf, isAmong}
-use Rattle.model.specs.Count.{product, rowCounts, Counts, count}
+use Rattle.model.specs.Count.{sum, product, rowCounts, Counts, count, total}
 use Rattle.model.specs.Value.{treeIn}
 use Rattle.model.specs.Used.{Child, first, later, Subtree, whole, child, Used, usedBy, stateUsed, growDown, isUsed}
 use Rattle.model.proofs.Choice.{or-left, or-right, and-true, and-both, any-true, any-some, not-both}
 use Rattle.model.proofs.Good.{AllBelow, below-first, below-rest, Ordered, Good}
-use Rattle.model.proofs.Counting.{factors-pos, count-counts}
+use Rattle.model.proofs.Counting.{getD-map, sum-entry, factors-pos, row-counts-le, count-counts, total-is}
 use Rattle.model.proofs.Reaching.{row-target, row-args, row-there, reaches-same}
 use Rattle.model.proofs.States.{args-states, entryOf-is, entryOf-first}
 use Rattle.model.proofs.Longest.{graft, reached-pos, reaches-pos}
@@ -142,6 +142,16 @@ unfolding product
 factor-pos c [] j l p = absurd (not-suc-le-zero l)
 factor-pos c (x ∷ xs) zero l p = factors-pos (c x) (product (map c xs)) 0 p .0
 factor-pos c (x ∷ xs) (suc j) l p = factor-pos c xs j (le-of-suc-le-suc l) (factors-pos (c x) (product (map c xs)) 0 p .1)
+
+-- and it is at most the product
+factor-le : (c : ℕ → ℕ) (xs : List ℕ) (j : ℕ) → j < length xs → 0 < product (map c xs) → c (getD xs j 0) ≤ product (map c xs)
+unfolding product
+factor-le c [] j l p = absurd (not-suc-le-zero l)
+factor-le c (x ∷ xs) zero l p = le-mul-of-pos-right (c x) (factors-pos (c x) (product (map c xs)) 0 p .1)
+factor-le c (x ∷ xs) (suc j) l p =
+    let f = factors-pos (c x) (product (map c xs)) 0 p in
+    let r : product (map c xs) ≤ c x * product (map c xs) = rw (mul-comm (c x) (product (map c xs))) (le-mul-of-pos-right (product (map c xs)) (f .0)) in
+    omega (arith, factor-le c xs j (le-of-suc-le-suc l) (f .1), r)
 
 -- a used state is a state
 marked-state : {T : Table} {c : ℕ → ℕ} {u : ℕ → Bool} → Marks T c u → (q : ℕ) → u q ≡ true → q < T .states
@@ -268,6 +278,10 @@ module _ (T : Table) (good : Good T) (c : ℕ → ℕ) (counts : Counts T c) (u 
       let g = trees-with x xs j (le-of-suc-le-suc l) r (below-rest (T .states) a xs b) (f .1) in
       record { forest = _; reach = graft (v .reaches) (g .reach); has = later (g .has) }
 
+  -- a used state's row has lower arguments
+  lower : {i s p : ℕ} {xs : List ℕ} → IsRow (T .rows) i s p xs → AllBelow p xs
+  lower {i} w = rw (row-target w, row-args w) at (good .ordered i (w .inside))
+
   record With (x : Tree) : Type 0 where
     tree : Tree
     accepted : Accepted T tree
@@ -285,9 +299,6 @@ module _ (T : Table) (good : Good T) (c : ℕ → ℕ) (counts : Counts T c) (u 
           let b : getD xs j 0 < p = lower w j l in
           let v = ih p (omega (arith, d)) k (record { symbol = s; children = g .forest }) (row i w (g .reach) none) in
           record { tree = v .tree; accepted = v .accepted; inside = child (v .inside) (g .has) }
-        where
-          lower : {i s p : ℕ} {xs : List ℕ} → IsRow (T .rows) i s p xs → AllBelow p xs
-          lower {i} w = rw (row-target w, row-args w) at (good .ordered i (w .inside))
 
   -- the marked states are those that are used
   pub marked-exactly : (q : ℕ) → (u q ≡ true) ↔ Used T q
@@ -304,6 +315,23 @@ module _ (T : Table) (good : Good T) (c : ℕ → ℕ) (counts : Counts T c) (u 
           let p = subtree-reached (h .accepted) (h .inside) in
           subst (λ (a : ℕ). u a ≡ true) (reaches-same {t = h .subtree} (good .sound .distinct) (p .reaches) (h .reaches)) (p .used)
 
+  -- a used state counts at most what the listed states do together
+  few : (n q : ℕ) → T .states ≤ q + n → u q ≡ true → c q ≤ sum (map c (T .accepting))
+  few zero q h e = absurd (omega (arith, marked-state marks q e))
+  few (suc n) q h e = go (why q e) (few n)
+    where
+      go : Why T c u q → ((p : ℕ) → T .states ≤ p + n → u p ≡ true → c p ≤ sum (map c (T .accepting))) → c q ≤ sum (map c (T .accepting))
+      go (listed i l d m) ih = omega (arith, sum-entry (map c (T .accepting)) i, getD-map c (T .accepting) i 0 0 l, ap c d)
+      go (named {p} {xs} w j l d m k) ih =
+          let b : getD xs j 0 < p = lower w j l in
+          let f = factor-le c xs j l m in
+          let r = row-counts-le c w in
+          let s = counts .state p (marked-state marks p k) in
+          omega (arith, f, ap c d, r, s, ih p (omega (arith, d)) k)
+
+  pub marked-few : (q : ℕ) → u q ≡ true → c q ≤ sum (map c (T .accepting))
+  marked-few q e = few (T .states) q (omega arith) e
+
 -- ---- a good table
 
 module _ (T : Table) (good : Good T) where
@@ -319,6 +347,10 @@ module _ (T : Table) (good : Good T) where
 
   pub used-pos : (q : ℕ) → isUsed T q ≡ true → 0 < count T q
   used-pos = marked-pos T good (count T) counts (isUsed T) marks
+
+  -- a used state counts at most the total: each of its trees is in an accepted one
+  pub used-few : (q : ℕ) → isUsed T q ≡ true → count T q ≤ total T
+  used-few q e = omega (arith, marked-few T good (count T) counts (isUsed T) marks q e, total-is T)
 
   -- the arguments of a row that counts more than 0 and has a used target are used
   pub used-args : {i s p : ℕ} {xs : List ℕ} → IsRow (T .rows) i s p xs → isUsed T p ≡ true → 0 < product (map (count T) xs) → (j : ℕ) → j < length xs → isUsed T (getD xs j 0) ≡ true

@@ -31,11 +31,11 @@ kindNumber RepeatedRow = 6
 -- "the first entry that is no state or equals an earlier entry is 7"
 kindNumber AcceptingEntry = 7
 -- "a list longer than the count of states is 8": withdrawn (specs/Card)
--- "a count above 4,294,967,295 is 9"
+-- "a count above [the limit] is 9": 18,446,744,073,709,551,615 (document 02, h)
 kindNumber CountAboveLimit = 9
 -- "a longest tree above 4,096 entries is 10"
 kindNumber LongestTreeAboveLimit = 10
--- "a total above 4,294,967,295 is 11"
+-- "a total above [the limit] is 11": the same
 kindNumber TotalAboveLimit = 11
 -- "More than 4,096 entries is 12."
 kindNumber TreeTooLong = 12

@@ -54,7 +54,7 @@ unfoldable pub acceptingGround : (states : ℕ) (accepting : List ℕ) → ℕ �
 acceptingGround states accepting i =
     if not (isState states (stateAt accepting i)) || anyBelow i (λ j. eqb (stateAt accepting j) (stateAt accepting i)) then 7 else 0
 
--- "for each, a count above 4,294,967,295 is 9, and after that a longest tree above 4,096 entries is 10"
+-- "for each, a count above [the limit] is 9, and after that a longest tree above 4,096 entries is 10"
 unfoldable pub limitGround : (limit : ℕ) → Table → ℕ → ℕ
 limitGround limit T q =
     if ltb limit (count T q) then 9 else
@@ -79,7 +79,7 @@ abbrev pub statesOutcome : (limit : ℕ) → Table → (ground : ℕ → ℕ) �
 statesOutcome limit T ground =
     -- "Then states are taken in turn from 0, the first faulty state decides, and its number is the place"
     firstFaulty (T .states) ground
-    -- "Last, a total above 4,294,967,295 is 11."
+    -- "Last, a total above [the limit] is 11."
     (if ltb limit (total T) then refused 11 0 else result (total T))
 
 -- the same, with the used states held to that limit
@@ -90,8 +90,9 @@ countsOutcome limit T = statesOutcome limit T (stateGround limit T)
 unfoldable pub checkWithin : (limit states : ℕ) (rows accepting : List ℕ) → Outcome
 checkWithin limit states rows accepting = listsThen states rows accepting (countsOutcome limit (tableOf states rows accepting))
 
+-- "the limit in 9 and 11 becomes 18,446,744,073,709,551,615" (document 02, h; in document 01 it was 4,294,967,295)
 abbrev pub countLimit : ℕ
-countLimit = 4294967295
+countLimit = 18446744073709551615
 
 -- what checking a table answers, for any count of states and any two lists
 unfoldable pub checkOutcome : (states : ℕ) (rows accepting : List ℕ) → Outcome

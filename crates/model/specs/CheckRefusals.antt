@@ -99,7 +99,7 @@ pub data CheckRefused (states : ℕ) (rows accepting : List ℕ) (number place :
   -- states only, in their old places." (document 02, c)
   check9to10 : states ≤ 256 → FaultlessRows states rows → FaultlessEntries states accepting → FirstBeyond (tableOf states rows accepting) place number
       → CheckRefused states rows accepting number place
-  -- "Last, a total above 4,294,967,295 is 11."
+  -- "Last, a total above [the limit] is 11."
   check11 : number ≡ 11 → states ≤ 256 → FaultlessRows states rows → FaultlessEntries states accepting → TotalBeyond (tableOf states rows accepting) place
       → CheckRefused states rows accepting number place
 

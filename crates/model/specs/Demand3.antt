@@ -89,7 +89,7 @@ module _ (states : ℕ) (rows accepting : List ℕ) where
     pub answers : AnswersOf total
 
 -- demand 3: every table that passes its check pairs off its trees and its numbers (the theorem `demand3`); "The pairing of trees and numbers now
--- covers these tables too." (document 02, c)
+-- covers these tables too." (document 02, c); "The pairing now holds up to the larger total." (document 02, h)
 abbrev pub PairsOff : Type 0
 PairsOff = (states : ℕ) (rows accepting : List ℕ) (n : ℕ) → Passes states rows accepting n → Demand3 states rows accepting n
 

@@ -4,47 +4,40 @@ use Prim.Native.Nat.{ℕ, _<_}
 use mathlib.Core.Path.{_≡_}
 use mathlib.Core.Logic.{_⊎_}
 use mathlib.Core.List.{List}
-use Rattle.model.specs.Answers.{Outcome, result, refused}
+use Rattle.model.specs.Answers.{Outcome, refused}
 use Rattle.model.specs.Table.{Table, tableOf}
 use Rattle.model.specs.Tree.{Tree}
 use Rattle.model.specs.Reach.{Reaches, Accepted}
 use Rattle.model.specs.Count.{count, total}
 use Rattle.model.specs.Value.{valueOf, treeNumber, treeOf}
 use Rattle.model.specs.Used.{Used, usedCount, formedOf, formedNumber}
-use Rattle.model.specs.Check.{limitGround, listsThen, statesOutcome, countLimit, checkOutcome, Passes}
-use Rattle.model.specs.Number.{numberTree, numberOutcome}
-use Rattle.model.specs.Write.{writeTree, writeTreeList, writeOutcome, writeList}
+use Rattle.model.specs.Check.{limitGround, listsThen, statesOutcome, checkWithin, Passes}
+use Rattle.model.specs.Conserved.{Conserves}
 
 -- ---- what stays
 
--- the check but for the request: all states are held to the limits, used or not
-unfoldable pub checkAll : (states : ℕ) (rows accepting : List ℕ) → Outcome
-checkAll states rows accepting =
+-- the check but for the request: all states are held to the limits, used or not (document 01's check has the limit 4,294,967,295)
+unfoldable pub checkAll : (limit states : ℕ) (rows accepting : List ℕ) → Outcome
+checkAll limit states rows accepting =
     let T = tableOf states rows accepting in
-    listsThen states rows accepting (statesOutcome countLimit T (limitGround countLimit T))
-
--- checking, numbering and writing answer as with that check, and leave the same in the lent list
-pub record SameAnswers (states : ℕ) (rows accepting : List ℕ) : Type 0 where
-  pub checking : checkOutcome states rows accepting ≡ checkAll states rows accepting
-  pub numbering : (tree : List ℕ) → numberOutcome states rows accepting tree ≡ numberTree (checkAll states rows accepting) (tableOf states rows accepting) tree
-  pub writing : (number room : ℕ) → writeOutcome states rows accepting number room ≡ writeTree (checkAll states rows accepting) (tableOf states rows accepting) number room
-  pub list : (number : ℕ) (tree : List ℕ) → writeList states rows accepting number tree ≡ writeTreeList (checkAll states rows accepting) (tableOf states rows accepting) number tree
+    listsThen states rows accepting (statesOutcome limit T (limitGround limit T))
 
 -- a table that passes that check passes with the same total, and every tree and number has the same answer (the theorem `conservative`)
 abbrev pub Conservative : Type 0
-Conservative = (states : ℕ) (rows accepting : List ℕ) (n : ℕ) → checkAll states rows accepting ≡ result n → SameAnswers states rows accepting
+Conservative = (limit : ℕ) → Conserves (checkAll limit) (checkWithin limit)
 
 -- that check refuses by 9 or 10 at an unused state
-pub record RefusedUnused (states : ℕ) (rows accepting : List ℕ) : Type 0 where
+pub record RefusedUnused (limit states : ℕ) (rows accepting : List ℕ) : Type 0 where
   pub number : ℕ
   pub place : ℕ
-  pub refuses : checkAll states rows accepting ≡ refused number place
-  pub limit : (number ≡ 9) ⊎ (number ≡ 10)
+  pub refuses : checkAll limit states rows accepting ≡ refused number place
+  pub nine-or-ten : (number ≡ 9) ⊎ (number ≡ 10)
   pub unused : Used (tableOf states rows accepting) place → ⊥
 
--- "9 and 10 speak of used states only, in their old places.": no other answer of the check is another (the theorem `old-places`)
+-- "9 and 10 speak of used states only, in their old places.": every other answer of the check is as it was (the theorem `old-places`)
 abbrev pub OldPlaces : Type 0
-OldPlaces = (states : ℕ) (rows accepting : List ℕ) → (checkOutcome states rows accepting ≡ checkAll states rows accepting) ⊎ RefusedUnused states rows accepting
+OldPlaces = (limit states : ℕ) (rows accepting : List ℕ)
+    → (checkWithin limit states rows accepting ≡ checkAll limit states rows accepting) ⊎ RefusedUnused limit states rows accepting
 
 -- ---- "and no value is formed in an unused one"
 

@@ -1,4 +1,5 @@
--- What a reader must believe: the terms of document 01. Definitions only, each under the sentence that it renders.
+-- What a reader must believe: the terms of document 01, as document 02 changes them. Definitions only, each under the sentence that it renders; a
+-- word in square brackets stands for what document 02 changed there.
 pub mod Answers
 pub mod Choice
 pub mod Table
@@ -23,7 +24,9 @@ pub mod Number
 pub mod Write
 pub mod Card
 pub mod Demand3
+pub mod Conserved
 pub mod HalfDrawn
+pub mod SixtyFour
 pub mod TreeRefusals
 pub mod Text
 pub mod Paper

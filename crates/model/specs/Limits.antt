@@ -21,7 +21,7 @@ pub record WithinLimits (T : Table) (q : ℕ) : Type 0 where
   pub few : many ≤ countLimit
   pub short : (t : Tree) → Reaches (T .rows) t q → length (serial t) ≤ 4096
 
--- "for each, a count above 4,294,967,295 is 9, and after that a longest tree above 4,096 entries is 10"
+-- "for each, a count above [the limit] is 9, and after that a longest tree above 4,096 entries is 10"
 pub data BeyondLimits (T : Table) (q number : ℕ) : Type 0 where
   nine : number ≡ 9 → (many : ℕ) → ReachedBy (T .rows) q many → countLimit < many → BeyondLimits T q number
   ten : number ≡ 10 → (many : ℕ) → ReachedBy (T .rows) q many → many ≤ countLimit → (t : Tree) → Reaches (T .rows) t q → 4096 < length (serial t) → BeyondLimits T q number
@@ -33,7 +33,7 @@ pub record FirstBeyond (T : Table) (q number : ℕ) : Type 0 where
   pub used : Used T q
   pub here : BeyondLimits T q number
 
--- "Last, a total above 4,294,967,295 is 11."
+-- "Last, a total above [the limit] is 11."
 pub record TotalBeyond (T : Table) (place : ℕ) : Type 0 where
   pub zero-place : place ≡ 0
   -- no used state is beyond the limits

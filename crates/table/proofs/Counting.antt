@@ -1,18 +1,16 @@
 -- Laws of the check from the states on. Assumes nothing.
-use Prim.Native.Nat.{ℕ, _<_, _≤_}
-use mathlib.Core.Path.{_≡_, refl, sym, ap, _∙_}
-use mathlib.Core.Bool.{Bool, true}
+use Prim.Native.Nat.{ℕ, _≤_}
+use mathlib.Core.Path.{_≡_, sym, ap, _∙_}
+use mathlib.Core.Bool.{Bool}
 use mathlib.Core.List.{List, map}
 use native.Mathlib.Omega.{arith}
-use lib.ListN.{length, getD}
-use lib.Dec.{ltb}
+use lib.ListN.{length}
 use borrow.Author.Tests.{lt-ltb, le-ltb}
 use Rattle.model.specs.declared.Kind.{Kind}
 use Rattle.model.specs.declared.Refusal.{Refusal}
 use Rattle.model.specs.declared.Answer.{Answer}
 use Rattle.model.specs.declared.Answer.the-variants.{Refused}
-use Rattle.model.specs.Answers.{Outcome, result, refused, kindNumber, refusedBy, outcome}
-use Rattle.model.specs.Choice.{if_then_else_, firstFaulty}
+use Rattle.model.specs.Answers.{result, refused, kindNumber, refusedBy, outcome}
 use Rattle.model.specs.Table.{Row, Table, acceptingStates}
 use Rattle.model.specs.Count.{sum, count, total}
 use Rattle.model.specs.Check.{stateGround, countsOutcome, countLimit}
@@ -26,7 +24,7 @@ use Rattle.counts.specs.declared.Kept.{Kept}
 use Rattle.counts.specs.Kept.{Is}
 use Rattle.counts.specs.Chain.{Chainable, ChainedRows}
 use Rattle.counts.specs.States.{held, ArgsPlaced, CountReady, CountedStates}
-use Rattle.counts.proofs.KeptCounts.{kept-within, kept-beyond, kept-above}
+use Rattle.counts.proofs.KeptCounts.{kept-within, kept-beyond}
 use Rattle.used.specs.declared.StateFault.{StateFault}
 use Rattle.used.specs.declared.StateFault.the-variants.{At, Nothing}
 use Rattle.used.specs.Settled.{SettleReady, Settled}
@@ -38,11 +36,8 @@ module _ {k : Kept} {n : ℕ} (is : Is k n) where
   pub total-over : (k .over ≡ 0 → ⊥) → refused 11 0 ≡ totalOr11 n
   total-over h = let l = kept-beyond is h in rw (lt-ltb countLimit n (omega arith))
 
-  pub total-above : countLimit < k .count → refused 11 0 ≡ totalOr11 n
-  total-above l = rw (lt-ltb countLimit n (kept-above countLimit is l))
-
-  pub total-within : k .over ≡ 0 → k .count ≤ countLimit → result (k .count) ≡ totalOr11 n
-  total-within z l = let e = kept-within is z in rw (e, le-ltb countLimit n (omega arith))
+  pub total-within : k .over ≡ 0 → result (k .count) ≡ totalOr11 n
+  total-within z = let e = kept-within is z in rw (e, le-ltb countLimit n (omega (arith, is .small)))
 
 -- ---- the rows chained, the states counted and held to the limits, the total
 

@@ -53,7 +53,7 @@ pub record EntriesChecked (states : ℕ) (accepting : List ℕ) (r : Found) : Ty
   pub none : r ≡ Nothing → AllFine (length accepting) (acceptingGround states accepting)
   pub some : (i : ℕ) → r ≡ At i → FirstAt (length accepting) (acceptingGround states accepting) i 7
 
--- "Last, a total above 4,294,967,295 is 11."
+-- "Last, a total above [the limit] is 11."
 abbrev pub totalOr11 : ℕ → Outcome
 totalOr11 n = if ltb countLimit n then refused 11 0 else result n
 

@@ -127,16 +127,13 @@ fn faulty_entry(states: u64, accepting: &[u16]) -> Found
     Found::Nothing
 }
 
-// The total, or 11.
+// The total; or 11 where it is above the largest number of 64 bits.
 fn total_of(accepting: &[u16], counts: &[u64]) -> Answer
     requires { ⌜ ArgsPlaced (now counts) (now accepting) ⌝ }
     ensures { λ r. ⌜ outcome r ≡ totalOr11 (sum (map (held (now (counts .entry))) (now (accepting .entry)))) ⌝ }
 {
     let total = counts::sum_of(accepting, counts);
     if total.over != 0 {
-        return Answer::Refused(refuse(Kind::TotalAboveLimit, 0));
-    }
-    if used::LIMIT < total.count {
         return Answer::Refused(refuse(Kind::TotalAboveLimit, 0));
     }
     Answer::Result(total.count)

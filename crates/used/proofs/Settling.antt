@@ -1,7 +1,7 @@
 -- Used states held to the limits: what is left then is as documents 01 and 02 say. Assumes nothing.
 use Prim.Native.Nat.{ℕ, _<_, _≤_, min}
 use mathlib.Core.Path.{_≡_, refl, sym, ap, _∙_}
-use mathlib.Core.Bool.{Bool, true, false, _&&_, _||_}
+use mathlib.Core.Bool.{Bool, true, false, _||_}
 use mathlib.Core.List.{List}
 use mathlib.Core.Logic.{_⊎_, inl, inr}
 use native.Mathlib.Decide.{decLe}
@@ -11,7 +11,6 @@ use lib.ListN.{length, getD}
 use lib.Dec.{ltb}
 use borrow.Author.Tests.{ltb-false}
 use Rattle.model.specs.declared.Kind.{Kind}
-use Rattle.model.specs.Answers.{kindNumber}
 use Rattle.model.specs.Choice.{if_then_else_}
 use Rattle.model.specs.Table.{Row, Table}
 use Rattle.model.specs.Count.{count}
@@ -23,7 +22,6 @@ use Rattle.model.proofs.Counting.{count-beyond}
 use Rattle.model.proofs.Checked.{ground-used, ground-clear}
 use Rattle.model.proofs.Used.{used-marks, used-beyond, listed-marked}
 use Rattle.model.proofs.UsedKept.{kept-alike}
-use Rattle.chains.specs.First.{AllFine}
 use Rattle.rows.specs.Words.{rowsIn, heldTable}
 use Rattle.rows.proofs.Words.{rows-long}
 use Rattle.counts.specs.Chain.{target}
@@ -33,8 +31,8 @@ use Rattle.counts.specs.Prepared.{usedSum, used as used-left, whole}
 use Rattle.counts.proofs.Prepared.{earlier-le}
 use Rattle.counts.proofs.All.{count-same, longest-same, earlier-same}
 use Rattle.used.specs.Marked.{isSet, PassReady, FoundUsed}
-use Rattle.used.specs.Limits.{Measures, Roomy, FaultFrom, FaultReady, FaultFound, FirstUsed}
-use Rattle.used.specs.Settled.{targetAt, ClearReady, Cleared, SettleReady, Settled}
+use Rattle.used.specs.Limits.{Measures, FaultFrom, FaultReady, FaultFound, FirstUsed}
+use Rattle.used.specs.Settled.{ClearReady, Cleared, SettleReady, Settled}
 use Rattle.used.specs.declared.StateFault.{StateFault}
 use Rattle.used.specs.declared.StateFault.the-variants.{At, Nothing}
 use Rattle.used.proofs.Walk.{target-word}
@@ -49,15 +47,14 @@ module _ {states : ℕ} {pool accepting words first cs ms used₀ ss : List ℕ}
   abbrev rows : List Row
   rows = rowsIn pool words
 
-  measures : Measures T cs ms
+  counted : (a : ℕ) → held cs a ≡ min (count T a) top
+  counted a = g .kept .counts a ∙ ap (λ (n : ℕ). min n top) (count-same states rows accepting a)
+
+  measures : Measures T ms
   measures = record {
-    counts = λ a. g .kept .counts a ∙ ap (λ (n : ℕ). min n top) (count-same states rows accepting a);
     overs = λ a l. g .kept .overs a l ∙ ap (ltb top) (count-same states rows accepting a);
     longs = λ a l. g .kept .longs a l ∙ ap (λ (n : ℕ). min n 4097) (longest-same states rows accepting a);
   }
-
-  pub roomy : Roomy states cs ms
-  roomy = record { cs-room = g .room .cs-room; ms-room = g .room .ms-room }
 
   pub pass-ready : PassReady states pool accepting words first cs used₀
   pass-ready = record {
@@ -69,19 +66,19 @@ module _ {states : ℕ} {pool accepting words first cs ms used₀ ss : List ℕ}
     cs-room = g .room .cs-room;
     used-room = g .room .used-room;
     blank = g .blank;
-    alike = λ a. ap (ltb 0) (measures .counts a) ∙ kept-alike top (omega arith) (count T) a;
+    alike = λ a. ap (ltb 0) (counted a) ∙ kept-alike top (omega arith) (count T) a;
   }
 
   -- a count within the limit is held as it is
   exact : (a : ℕ) → count T a ≤ countLimit → held cs a ≡ count T a
-  exact a l = omega (arith, measures .counts a)
+  exact a l = omega (arith, counted a)
 
   fine-exact : (a : ℕ) → limitGround countLimit T a ≡ 0 → held cs a ≡ count T a
   fine-exact a e = exact a (ground-fine T a e)
 
   -- ---- no state is beyond a limit, and nothing is prepared
 
-  pub settled-none : (prepare b : Bool) (from : ℕ) → b ≡ false → b ≡ (prepare || ltb from states) → FaultFrom states cs ms from → Settled prepare states pool accepting words cs cs ss ss Nothing
+  pub settled-none : (prepare b : Bool) (from : ℕ) → b ≡ false → b ≡ (prepare || ltb from states) → FaultFrom states ms from → Settled prepare states pool accepting words cs cs ss ss Nothing
   settled-none prepare b from low is f = record {
     cs-long = refl;
     sums-long = refl;
@@ -120,8 +117,8 @@ module _ {states : ℕ} {pool accepting words first cs ms used₀ ss : List ℕ}
   -- ---- the used states are found
 
   module _ {used : List ℕ} (u : FoundUsed states pool accepting words used₀ used) where
-    pub fault-ready : (from : ℕ) → FaultFrom states cs ms from → FaultReady states cs ms used from
-    fault-ready from f = record { room = roomy; used-room = omega (arith, g .room .used-room, u .long); before = f }
+    pub fault-ready : (from : ℕ) → FaultFrom states ms from → FaultReady states ms used from
+    fault-ready from f = record { room = g .room .ms-room; used-room = omega (arith, g .room .used-room, u .long); before = f }
 
     pub clear-ready : ClearReady states words first used cs ss
     clear-ready = record {
@@ -134,7 +131,7 @@ module _ {states : ℕ} {pool accepting words first cs ms used₀ ss : List ℕ}
       sums-room = g .room .sums-room;
     }
 
-    module _ {r : StateFault} (f : FirstUsed states cs ms used r) where
+    module _ {r : StateFault} (f : FirstUsed states ms used r) where
       found : FaultFound states (stateGround countLimit T) r
       found = f .found T refl measures (u .each)
 
@@ -172,7 +169,7 @@ module _ {states : ℕ} {pool accepting words first cs ms used₀ ss : List ℕ}
         unfolding usedCount
         other-count a l =
             let z = count-beyond T a l in
-            let e : held cs a ≡ 0 = omega (arith, measures .counts a, z) in
+            let e : held cs a ≡ 0 = omega (arith, counted a, z) in
             c .beyond a l ∙ e ∙ sym (if-no (isUsed T a) (count T a) 0 (used-beyond T a l))
 
         counts : (a : ℕ) → held cs′ a ≡ usedCount T a

@@ -17,16 +17,10 @@ use Rattle.used.specs.Marked.{isSet}
 use Rattle.used.specs.declared.StateFault.{StateFault}
 use Rattle.used.specs.declared.StateFault.the-variants.{At, Nothing}
 
--- the counts and marks are those of the table's states
-pub record Measures (T : Table) (cs ms : List ℕ) : Type 0 where
-  pub counts : (a : ℕ) → held cs a ≡ min (count T a) top
+-- the marks are those of the table's states
+pub record Measures (T : Table) (ms : List ℕ) : Type 0 where
   pub overs : (a : ℕ) → a < T .states → overIn (held ms a) ≡ ltb top (count T a)
   pub longs : (a : ℕ) → a < T .states → longIn (held ms a) ≡ min (longest T a) 4097
-
--- there is a count and a mark for each state
-pub record Roomy (states : ℕ) (cs ms : List ℕ) : Type 0 where
-  pub cs-room : states ≤ length cs
-  pub ms-room : states ≤ length ms
 
 -- no state from one on and before another is beyond a limit
 abbrev pub FineFrom : (T : Table) (from to : ℕ) → Type 0
@@ -39,27 +33,27 @@ pub record BeyondAt (T : Table) (from q number : ℕ) : Type 0 where
   pub before : FineFrom T from q
   pub here : limitGround countLimit T q ≡ number
 
--- of every table whose counts and marks these are: the first such state, or there is none
-pub record BeyondFrom (states : ℕ) (cs ms : List ℕ) (from : ℕ) (r : StateFault) : Type 0 where
+-- of every table whose marks these are: the first such state, or there is none
+pub record BeyondFrom (states : ℕ) (ms : List ℕ) (from : ℕ) (r : StateFault) : Type 0 where
   pub inside : (q : ℕ) (k : Kind) → r ≡ At q k → (from ≤ q) × (q < states)
-  pub at : (T : Table) → T .states ≡ states → Measures T cs ms → (q : ℕ) (k : Kind) → r ≡ At q k → BeyondAt T from q (kindNumber k)
-  pub none : (T : Table) → T .states ≡ states → Measures T cs ms → r ≡ Nothing → FineFrom T from states
+  pub at : (T : Table) → T .states ≡ states → Measures T ms → (q : ℕ) (k : Kind) → r ≡ At q k → BeyondAt T from q (kindNumber k)
+  pub none : (T : Table) → T .states ≡ states → Measures T ms → r ≡ Nothing → FineFrom T from states
 
 -- no state before this one is beyond a limit
-pub record FaultFrom (states : ℕ) (cs ms : List ℕ) (from : ℕ) : Type 0 where
-  pub fine : (T : Table) → T .states ≡ states → Measures T cs ms → FineFrom T 0 from
+pub record FaultFrom (states : ℕ) (ms : List ℕ) (from : ℕ) : Type 0 where
+  pub fine : (T : Table) → T .states ≡ states → Measures T ms → FineFrom T 0 from
 
 -- what the first used state beyond a limit is looked for from
-pub record FaultReady (states : ℕ) (cs ms used : List ℕ) (from : ℕ) : Type 0 where
-  pub room : Roomy states cs ms
+pub record FaultReady (states : ℕ) (ms used : List ℕ) (from : ℕ) : Type 0 where
+  pub room : states ≤ length ms
   pub used-room : states ≤ length used
-  pub before : FaultFrom states cs ms from
+  pub before : FaultFrom states ms from
 
 -- the first faulty state of n, or there is none
 pub record FaultFound (n : ℕ) (ground : ℕ → ℕ) (r : StateFault) : Type 0 where
   pub fault : (q : ℕ) (k : Kind) → r ≡ At q k → FirstAt n ground q (kindNumber k)
   pub fine : r ≡ Nothing → AllFine n ground
 
--- of every table whose counts, marks and used states these are: the first used state that is beyond a limit, or there is none
-pub record FirstUsed (states : ℕ) (cs ms used : List ℕ) (r : StateFault) : Type 0 where
-  pub found : (T : Table) → T .states ≡ states → Measures T cs ms → ((q : ℕ) → isSet used q ≡ isUsed T q) → FaultFound states (stateGround countLimit T) r
+-- of every table whose marks and used states these are: the first used state that is beyond a limit, or there is none
+pub record FirstUsed (states : ℕ) (ms used : List ℕ) (r : StateFault) : Type 0 where
+  pub found : (T : Table) → T .states ≡ states → Measures T ms → ((q : ℕ) → isSet used q ≡ isUsed T q) → FaultFound states (stateGround countLimit T) r

@@ -9,16 +9,11 @@ ghost use lib.ListN.{length};
 ghost use lib.Dec.{ltb};
 ghost use Rattle.model.specs.Count.{product};
 ghost use Rattle.model.specs.Reach.{isAmong};
-ghost use Rattle.model.specs.Check.{countLimit};
 ghost use Rattle.rows.specs.Words.{rowsIn};
 ghost use Rattle.counts.specs.States.{held};
-ghost use Rattle.counts.specs.Marks.{overIn};
 ghost use Rattle.used.specs.Marked.{Placed, NoneEmpty, ArgsSome, MarkedToo, RowPlaced, rowNames, listedBy, AllMarked, PassedBy, TurnReady, Turned, PassReady, FoundUsed};
-ghost use Rattle.used.specs.Limits.{Roomy, BeyondFrom, FaultFrom, FaultReady, FirstUsed};
+ghost use Rattle.used.specs.Limits.{BeyondFrom, FaultFrom, FaultReady, FirstUsed};
 ghost use Rattle.used.specs.Settled.{RowsChained, RowsCleared, ClearReady, Cleared, SettleReady, Settled};
-
-// The largest count that passes.
-pub const LIMIT: u64 = 4294967295;
 
 // The most entries that a state's longest tree may have.
 const LENGTH_LIMIT: u64 = 4096;
@@ -184,24 +179,15 @@ pub fn find_used(
     }
 }
 
-// Whether a count, as it is held with its mark, is above the limit.
-fn is_above(count: u64, mark: u64) -> bool
-    ensures { λ r. ⌜ r ≡ (ltb countLimit count || overIn mark) ⌝ }
-{
-    if LIMIT < count {
-        return true;
-    }
-    counts::over_in(mark)
-}
-
-// The first state from `from` on whose count is above the limit, or else whose longest tree is.
-pub fn first_beyond(states: usize, counts: &[u64], marks: &[u64], from: usize) -> StateFault
-    requires { ⌜ Roomy states (now counts) (now marks) ⌝ }
-    ensures { λ r. ⌜ BeyondFrom states (now (counts .entry)) (now (marks .entry)) from r ⌝ }
+// The first state from `from` on whose count is above the limit, or else whose longest tree is. The limit is the largest number of 64 bits: a
+// count above it has a mark.
+pub fn first_beyond(states: usize, marks: &[u64], from: usize) -> StateFault
+    requires { ⌜ states ≤ length (now marks) ⌝ }
+    ensures { λ r. ⌜ BeyondFrom states (now (marks .entry)) from r ⌝ }
 {
     let mut q = from;
     while q < states {
-        if is_above(counts[q], marks[q]) {
+        if counts::over_in(marks[q]) {
             return StateFault::At(q, Kind::CountAboveLimit);
         }
         if LENGTH_LIMIT < counts::long_in(marks[q]) {
@@ -213,30 +199,24 @@ pub fn first_beyond(states: usize, counts: &[u64], marks: &[u64], from: usize) -
 }
 
 // The number of the first state beyond a limit, or `states`.
-fn first_place(states: usize, counts: &[u64], marks: &[u64]) -> usize
-    requires { ⌜ Roomy states (now counts) (now marks) ⌝ }
-    ensures { λ r. ⌜ FaultFrom states (now (counts .entry)) (now (marks .entry)) r ⌝ }
+fn first_place(states: usize, marks: &[u64]) -> usize
+    requires { ⌜ states ≤ length (now marks) ⌝ }
+    ensures { λ r. ⌜ FaultFrom states (now (marks .entry)) r ⌝ }
 {
-    match first_beyond(states, counts, marks, 0) {
+    match first_beyond(states, marks, 0) {
         StateFault::At(q, kind) => q,
         StateFault::Nothing => states,
     }
 }
 
 // The first used state from `from` on that is beyond a limit, where no state before that is.
-pub fn first_fault(
-    states: usize,
-    counts: &[u64],
-    marks: &[u64],
-    used: &[u8],
-    from: usize,
-) -> StateFault
-    requires { ⌜ FaultReady states (now counts) (now marks) (now used) from ⌝ }
-    ensures { λ r. ⌜ FirstUsed states (now (counts .entry)) (now (marks .entry)) (now (used .entry)) r ⌝ }
+pub fn first_fault(states: usize, marks: &[u64], used: &[u8], from: usize) -> StateFault
+    requires { ⌜ FaultReady states (now marks) (now used) from ⌝ }
+    ensures { λ r. ⌜ FirstUsed states (now (marks .entry)) (now (used .entry)) r ⌝ }
 {
     let mut q = from;
     while q < states {
-        match first_beyond(states, counts, marks, q) {
+        match first_beyond(states, marks, q) {
             StateFault::At(a, kind) => {
                 if used[a] != 0 {
                     return StateFault::At(a, kind);
@@ -312,12 +292,12 @@ fn settle_used(
     from: usize,
 ) -> StateFault
     requires { ⌜ SettleReady states (now pool) (now accepting) (now words) (now first) (now counts) (now marks) (now used) (now sums)
-        × FaultFrom states (now counts) (now marks) from ⌝ }
+        × FaultFrom states (now marks) from ⌝ }
     ensures { λ r. ⌜ Settled true states (now (pool .entry)) (now (accepting .entry)) (now (words .entry)) (now (counts .entry))
         (now (counts .exit)) (now (sums .entry)) (now (sums .exit)) r ⌝ }
 {
     find_used(states, pool, accepting, words, first, &*counts, used);
-    match first_fault(states, &*counts, marks, &*used, from) {
+    match first_fault(states, marks, &*used, from) {
         StateFault::At(q, kind) => StateFault::At(q, kind),
         StateFault::Nothing => {
             clear_unused(states, words, first, &*used, counts, sums);
@@ -344,7 +324,7 @@ pub fn settle(
     ensures { λ r. ⌜ Settled prepare states (now (pool .entry)) (now (accepting .entry)) (now (words .entry)) (now (counts .entry))
         (now (counts .exit)) (now (sums .entry)) (now (sums .exit)) r ⌝ }
 {
-    let from = first_place(states, &*counts, marks);
+    let from = first_place(states, marks);
     if must_find(prepare, states, from) {
         return settle_used(
             states,

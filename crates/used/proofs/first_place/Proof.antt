@@ -5,10 +5,10 @@ use Rattle.used.proofs.first_place.Statement.{statement}
 use Rattle.used.proofs.first_place.Tie as tie
 
 returns : tie.Need-returns
-returns c = place-at (c .before .before .before .before .before .before .args .states) (c .before .before .before .before .before .before .args .counts .now) (c .before .before .before .before .before .before .args .marks .now) _ (c .before .before .before .first-beyond .ensures) _ _ (c .before .q .given .1)
+returns c = place-at (c .before .before .before .before .before .args .states) (c .before .before .before .before .before .args .marks .now) _ (c .before .before .before .first-beyond .ensures) _ _ (c .before .q .given .1)
 
 returns-2 : tie.Need-returns-2
-returns-2 c = place-none (c .before .before .before .before .before .args .states) (c .before .before .before .before .before .args .counts .now) (c .before .before .before .before .before .args .marks .now) _ (c .before .before .first-beyond .ensures) (c .enum-told .given .1)
+returns-2 c = place-none (c .before .before .before .before .args .states) (c .before .before .before .before .args .marks .now) _ (c .before .before .first-beyond .ensures) (c .enum-told .given .1)
 
 pub first-place-spec : {M : Type 1} → statement M
 first-place-spec =
