@@ -46,9 +46,9 @@ enum {
     TREENUM_ACCEPTING_ENTRY = 7,            /* an accepting entry that is no state or equals an earlier entry; the entry */
     /* 8, which was TREENUM_ACCEPTING_TOO_LONG, is withdrawn and not used again: it was never returned, so its case can
        go. A list longer than the count of states has an entry that is no state or equals an earlier one: 7 */
-    TREENUM_COUNT_ABOVE_LIMIT = 9,          /* a used state's count above 4,294,967,295; the state */
+    TREENUM_COUNT_ABOVE_LIMIT = 9,          /* a used state's count above 18,446,744,073,709,551,615; the state */
     TREENUM_LONGEST_TREE_ABOVE_LIMIT = 10,  /* a used state's longest tree above 4,096 entries; the state */
-    TREENUM_TOTAL_ABOVE_LIMIT = 11,         /* a total above 4,294,967,295 */
+    TREENUM_TOTAL_ABOVE_LIMIT = 11,         /* a total above 18,446,744,073,709,551,615 */
 
     /* taking a tree */
     TREENUM_TREE_TOO_LONG = 12, /* more than 4,096 entries */
@@ -81,18 +81,21 @@ enum {
 #define TREENUM_TREE_ROOM 4096
 #define TREENUM_TERM_ROOM 53248
 
-/* Checks a table. The result is its total, the count of the trees that it accepts. Refusals: 1 to 7 and 9 to 11, in
- * this order but for 2 to 6, where the first faulty row decides, and 9 and 10, where the first faulty used state does. */
+/* Checks a table. The result is its total, the count of the trees that it accepts; it can need all 64 bits. Refusals: 1
+ * to 7 and 9 to 11, in this order but for 2 to 6, where the first faulty row decides, and 9 and 10, where the first
+ * faulty used state does. */
 uint32_t treenum_check(uint64_t states, const uint16_t *rows, size_t rows_len, const uint16_t *accepting,
                        size_t accepting_len, uint64_t *value);
 
-/* Numbers a tree. The result is its number: how many of the trees that the table accepts come before it. Refusals: as
- * the check, then 12, 13, 14. */
+/* Numbers a tree. The result is its number: how many of the trees that the table accepts come before it. The numbers are
+ * those below the total: all of them fit 32 bits exactly if the total is at most 2 to the 32nd, 4,294,967,296. Refusals:
+ * as the check, then 12, 13, 14. */
 uint32_t treenum_number(uint64_t states, const uint16_t *rows, size_t rows_len, const uint16_t *accepting,
                         size_t accepting_len, const uint16_t *tree, size_t tree_len, uint64_t *value);
 
 /* Writes the tree of a number into a tree list. The result is the count of entries, which are written at the front of
- * the list; the later ones stay. Refusals: as the check, then 15, 16. */
+ * the list; the later ones stay. Refusals: as the check, then 15, 16. 18,446,744,073,709,551,615 (UINT64_MAX) is no
+ * tree's number: it is 15 for every table that passes the check. */
 uint32_t treenum_write(uint64_t states, const uint16_t *rows, size_t rows_len, const uint16_t *accepting,
                        size_t accepting_len, uint64_t number, uint16_t *tree, size_t tree_len, uint64_t *value);
 
