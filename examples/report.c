@@ -1,5 +1,5 @@
-/* The way of a report: a logger makes a tree of what it measured and sends the tree's number, four bytes; the desk turns
- * the bytes back into words.
+/* The way of a report: a logger makes a tree of what it measured and sends the tree's number, four bytes or eight; the
+ * desk turns the bytes back into words.
  *
  *     rt staticlib treenum_c
  *     gcc -std=c11 -Iinclude examples/report.c target/staticlib/libtreenum_c.a -o target/report
@@ -64,23 +64,29 @@ static size_t measured(uint16_t when, int tenths, uint16_t door, uint16_t *tree,
     return n;
 }
 
+/* How many bytes a number takes on the wire. The numbers are those below the total: 4 bytes hold all of them exactly if
+ * the total is at most 2 to the 32nd, and 8 always do. Both sides have the table, so both get the same answer. */
+enum { MOST_WIRE_BYTES = 8 };
+static size_t wire_bytes(uint64_t total) {
+    return total <= UINT64_C(1) << 32 ? 4 : 8;
+}
+
 /* The logger: the report's number, the highest byte first. */
-static void send_report(const uint16_t *tree, size_t n, uint8_t wire[4]) {
+static void send_report(uint64_t total, const uint16_t *tree, size_t n, uint8_t wire[MOST_WIRE_BYTES]) {
     uint64_t value;
     const uint32_t refusal = treenum_number(TABLE, tree, n, &value);
     if (refusal != TREENUM_RESULT)
         stop("logger", refusal, value);
-    /* a number is below the total, and a total is below 2 to the 32nd */
-    for (int i = 0; i < 4; i++)
-        wire[i] = (uint8_t)(value >> (24 - 8 * i));
+    for (size_t i = wire_bytes(total); i-- > 0; value >>= 8)
+        wire[i] = (uint8_t)(value & 0xff);
 }
 
 /* The desk: the words of a number, or what it is refused for. */
-static void receive_report(const uint8_t wire[4]) {
+static void receive_report(uint64_t total, const uint8_t wire[MOST_WIRE_BYTES]) {
     static uint16_t tree[TREENUM_TREE_ROOM];
     static uint8_t text[TREENUM_TERM_ROOM];
     uint64_t number = 0, entries, bytes;
-    for (int i = 0; i < 4; i++)
+    for (size_t i = 0; i < wire_bytes(total); i++)
         number = number << 8 | wire[i];
     uint32_t refusal = treenum_write(TABLE, number, tree, TREENUM_TREE_ROOM, &entries);
     if (refusal == TREENUM_NUMBER_NOT_BELOW_TOTAL) {
@@ -96,6 +102,7 @@ static void receive_report(const uint8_t wire[4]) {
 }
 
 int main(void) {
+    /* once, at the start of either side */
     uint64_t total;
     const uint32_t refusal = treenum_check(TABLE, &total);
     if (refusal != TREENUM_RESULT)
@@ -109,13 +116,16 @@ int main(void) {
     n = measured(EVENING, -4, OPEN, tree, n);
     tree[n++] = BAR;
 
-    uint8_t wire[4];
-    send_report(tree, n, wire);
-    printf("logger: %zu entries are sent as %02x %02x %02x %02x\n", n, wire[0], wire[1], wire[2], wire[3]);
-    receive_report(wire);
+    uint8_t wire[MOST_WIRE_BYTES];
+    send_report(total, tree, n, wire);
+    printf("logger: %zu entries are sent as", n);
+    for (size_t i = 0; i < wire_bytes(total); i++)
+        printf(" %02x", wire[i]);
+    printf("\n");
+    receive_report(total, wire);
 
     /* damaged on the way; below the total it would be another report, so the wire needs a check of its own */
     wire[0] ^= 0x80;
-    receive_report(wire);
+    receive_report(total, wire);
     return 0;
 }
