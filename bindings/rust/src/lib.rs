@@ -24,6 +24,8 @@
 //! # fn main() -> Result<(), Box<dyn std::error::Error>> {
 //! let table = Table::new(5, &ROWS, &[2, 4])?;
 //! assert_eq!(table.total(), 12);
+//! // Numbers are below the total, so four bytes hold every number of this table.
+//! assert!(table.total() <= 1 << 32);
 //!
 //! // The sender: from words to four bytes.
 //! let tree = tree_of(NAMES, b"b(b(a,b),a(b,b),b)")?;
@@ -93,9 +95,31 @@ const MOST_ENTRIES: usize = 4096;
 
 /// A table that has passed its check.
 ///
-/// Numbers are `u64`, as the library has them, and no number is cut on its way: 2³² + 3 is not
-/// below any total, and is refused. A total is at most 4,294,967,295, so every number that a table
-/// gives fits a `u32`, and a report travels in four bytes.
+/// Numbers are `u64`, as the library has them, and none is cut on its way. A table's numbers are
+/// those below its [total](Table::total), which is at most [`u64::MAX`]. So every one of them fits
+/// a `u32`, and a report travels in four bytes, exactly if `total() <= 1 << 32`: test that before
+/// `u32::try_from`, or send eight. And `u64::MAX` is no tree's number: it is 15 for every table.
+///
+/// ```
+/// use treenum::{Kind, Refusal, Table};
+///
+/// // The trees of state q: q nodes, each 1 or 2, one below the other, and the leaf 3.
+/// let mut rows = vec![3, 0, 0];
+/// for q in 1..34 {
+///     rows.extend([1, q, 1, q - 1, 2, q, 1, q - 1]);
+/// }
+/// for q in 31..34 {
+///     let table = Table::new(34, &rows, &[q])?;
+///     assert_eq!(table.total(), 1 << q);
+///     let last = table.tree(table.total() - 1)?;
+///     let fits = u32::try_from(table.number(&last)?).is_ok();
+///     assert_eq!(fits, table.total() <= 1 << 32);
+///
+///     let refusal = Refusal { kind: Kind::NumberNotBelowTotal, place: 0 };
+///     assert_eq!(table.tree(u64::MAX), Err(refusal));
+/// }
+/// # Ok::<(), Refusal>(())
+/// ```
 ///
 /// The library checks the table again in each call, and the time of a call has that in it. As a
 /// `Table` has passed and does not change, its methods never refuse as the check does.
@@ -131,7 +155,8 @@ impl Table {
         })
     }
 
-    /// The count of the trees that the table accepts. Their numbers are those below it.
+    /// The count of the trees that the table accepts, up to [`u64::MAX`]. Their numbers are those
+    /// below it.
     ///
     /// ```
     /// # use treenum::Table;
@@ -143,7 +168,8 @@ impl Table {
         self.total
     }
 
-    /// The number of a tree: how many accepted trees come before it. Refuses 12, 13 and 14.
+    /// The number of a tree: how many accepted trees come before it. Those of all trees fit a `u32`
+    /// exactly if `total() <= 1 << 32`. Refuses 12, 13 and 14.
     ///
     /// ```
     /// use treenum::{Kind, Refusal, Table};
@@ -179,7 +205,7 @@ impl Table {
         write(self.states, &self.rows, &self.accepting, number, tree)
     }
 
-    /// The tree of a number. Refuses 15.
+    /// The tree of a number. Refuses 15; [`u64::MAX`] is refused so by every table.
     ///
     /// ```
     /// use treenum::{Kind, Refusal, Table};

@@ -5,7 +5,8 @@ use std::fmt::{self, Display, Formatter};
 
 /// Why an operation turned its input away: "a refusal with its number and place".
 ///
-/// It prints document 01's words; with 17 and 20 it adds the rule for equal names:
+/// It prints document 01's words, with document 02's limit in 9 and 11 (request (h)); with 17 and 20
+/// it adds the rule for equal names:
 ///
 /// ```
 /// use treenum::{Kind, Refusal};
@@ -60,7 +61,7 @@ impl Error for Refusal {}
 /// is 7.
 ///
 /// 9 and 10 speak of used states only (document 02, request (c)): a state is used if some accepted
-/// tree has a subtree reaching it.
+/// tree has a subtree reaching it. The limit in 9 and 11 is [`u64::MAX`] (request (h)).
 #[derive(Clone, Copy, Debug, PartialEq, Eq, Hash)]
 #[non_exhaustive]
 #[repr(u32)]
@@ -79,11 +80,11 @@ pub enum Kind {
     RepeatedRow,
     /// 7: an accepting entry is no state or equals an earlier one.
     AcceptingEntry,
-    /// 9: a used state counts too many trees.
+    /// 9: a used state counts more than 18,446,744,073,709,551,615 trees.
     CountAboveLimit = 9,
     /// 10: a used state's longest tree has more than 4,096 entries.
     LongestTreeAboveLimit,
-    /// 11: the total is too large.
+    /// 11: the total is above 18,446,744,073,709,551,615.
     TotalAboveLimit,
     /// 12: a lent tree has more than 4,096 entries.
     TreeTooLong,
@@ -164,7 +165,7 @@ impl Kind {
             .find(|kind| kind.number() == number)
     }
 
-    /// Document 01's words for what is turned away.
+    /// Document 01's words for what is turned away, with document 02's limit in 9 and 11.
     pub fn words(self) -> &'static str {
         match self {
             Kind::TooManyStates => "more than 256 states",
@@ -176,9 +177,9 @@ impl Kind {
             Kind::AcceptingEntry => {
                 "the accepting list: the first entry that is no state or equals an earlier entry"
             }
-            Kind::CountAboveLimit => "a count above 4,294,967,295",
+            Kind::CountAboveLimit => "a count above 18,446,744,073,709,551,615",
             Kind::LongestTreeAboveLimit => "a longest tree above 4,096 entries",
-            Kind::TotalAboveLimit => "a total above 4,294,967,295",
+            Kind::TotalAboveLimit => "a total above 18,446,744,073,709,551,615",
             Kind::TreeTooLong => "more than 4,096 entries",
             Kind::NotATree => "a list that is no tree",
             Kind::NotAccepted => "a tree that the table does not accept",

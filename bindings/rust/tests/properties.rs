@@ -22,12 +22,16 @@ impl Draw {
         Draw(std::env::var("TREENUM_SEED").map_or(3, |seed| seed.parse().unwrap()))
     }
 
-    fn below(&mut self, n: usize) -> usize {
+    fn word(&mut self) -> u64 {
         self.0 = self.0.wrapping_add(0x9e37_79b9_7f4a_7c15);
         let mut x = self.0;
         x = (x ^ (x >> 30)).wrapping_mul(0xbf58_476d_1ce4_e5b9);
         x = (x ^ (x >> 27)).wrapping_mul(0x94d0_49bb_1331_11eb);
-        ((x ^ (x >> 31)) % n as u64) as usize
+        x ^ (x >> 31)
+    }
+
+    fn below(&mut self, n: usize) -> usize {
+        (self.word() % n as u64) as usize
     }
 
     fn between(&mut self, low: usize, high: usize) -> u16 {
@@ -109,6 +113,144 @@ fn numbers_and_trees_pair_off() {
             let beyond = table.total() + beyond;
             assert_eq!(table.tree(beyond), refused(Kind::NumberNotBelowTotal, 0));
         }
+    }
+}
+
+/// Rows that make states of chosen counts.
+#[derive(Default)]
+struct Counting {
+    states: u16,
+    rows: Vec<u16>,
+    leaf: u16,
+}
+
+impl Counting {
+    /// A new state, without rows.
+    fn state(&mut self) -> u16 {
+        self.states += 1;
+        self.states - 1
+    }
+
+    fn row(&mut self, symbol: u16, target: u16, arguments: &[u16]) {
+        self.rows.extend([symbol, target, arguments.len() as u16]);
+        self.rows.extend(arguments);
+    }
+
+    /// A new state that counts so many trees, at least 1. It goes digit by digit: each state counts
+    /// twice the one before and, if the binary digit is 1, a leaf, which comes last.
+    fn counting(&mut self, count: u128) -> u16 {
+        let mut before = None;
+        for place in (0..128 - count.leading_zeros()).rev() {
+            let state = self.state();
+            if let Some(before) = before {
+                self.row(1, state, &[before]);
+                self.row(2, state, &[before]);
+            }
+            if count >> place & 1 == 1 {
+                self.leaf += 1;
+                self.row(self.leaf, state, &[]);
+            }
+            before = Some(state);
+        }
+        before.unwrap()
+    }
+
+    fn table(&self, accepting: &[u16]) -> Result<Table, Refusal> {
+        Table::new(self.states.into(), &self.rows, accepting)
+    }
+
+    fn total(&self, accepting: &[u16]) -> Result<u64, Refusal> {
+        self.table(accepting).map(|table| table.total())
+    }
+}
+
+#[test]
+fn numbers_have_64_bits() {
+    let (half, most) = (1 << 63, u64::MAX);
+    let mut draw = Draw::new();
+    for counts in [
+        &[1][..],
+        &[(1 << 32) - 1],
+        &[1 << 32],
+        &[(1 << 32) + 1],
+        &[1, 1 << 32],
+        &[half - 1],
+        &[half],
+        &[half + 1],
+        &[half, half - 1],
+        &[most - 1],
+        &[most - 1, 1],
+        &[1, most - 1],
+        &[most],
+    ] {
+        let mut made = Counting::default();
+        let accepting: Vec<u16> = counts.iter().map(|&n| made.counting(n.into())).collect();
+        let table = made.table(&accepting).unwrap();
+        let total = counts.iter().sum();
+        assert_eq!(table.total(), total);
+
+        let drawn = std::array::from_fn::<_, 100, _>(|_| draw.word() % total);
+        let edges = [0, counts[0] - 1, counts[0], u32::MAX.into(), 1 << 32, half];
+        for number in drawn.into_iter().chain(edges).filter(|&n| n < total) {
+            let tree = table.tree(number).unwrap();
+            assert_eq!(table.number(&tree), Ok(number));
+        }
+
+        let last = table.tree(total - 1).unwrap();
+        if counts.last().unwrap() % 2 == 1 {
+            assert_eq!(last, [made.leaf, 0]);
+        }
+        let number = table.number(&last).unwrap();
+        assert_eq!(number, total - 1);
+        assert_eq!(u32::try_from(number).is_ok(), total <= 1 << 32);
+        for beyond in [total, most] {
+            assert_eq!(table.tree(beyond), refused(Kind::NumberNotBelowTotal, 0));
+        }
+    }
+}
+
+#[test]
+fn more_than_64_bits_are_refused() {
+    // "4,294,967,295 and 4,294,967,297 trees, which make the new limit and pass, and twice
+    // 4,294,967,296, which give 9"; with a third argument that counts 0 they make a row of 0
+    let mut made = Counting::default();
+    let [less, even, more] = [(1 << 32) - 1, 1 << 32, (1 << 32) + 1].map(|n| made.counting(n));
+    let none = made.state();
+    for (arguments, count) in [
+        (&[less, more][..], Some(u64::MAX)),
+        (&[more, less], Some(u64::MAX)),
+        (&[even, even], None),
+        (&[none, even, even], Some(0)),
+        (&[even, none, even], Some(0)),
+        (&[even, even, none], Some(0)),
+    ] {
+        let state = made.state();
+        made.row(1, state, arguments);
+        let answer = count.map_or(refused(Kind::CountAboveLimit, state.into()), Ok);
+        assert_eq!(made.total(&[state]), answer);
+        // in no accepted tree it may count more
+        assert_eq!(made.total(&[less]), Ok(u32::MAX.into()));
+    }
+
+    // a state that counts 2 to the 64th by its sum
+    let mut made = Counting::default();
+    let state = made.counting(1 << 64);
+    let answer = refused(Kind::CountAboveLimit, state.into());
+    assert_eq!(made.total(&[state]), answer);
+
+    // totals, the states listed in either order
+    let (half, most) = (1 << 63, u64::MAX.into());
+    let above = refused(Kind::TotalAboveLimit, 0);
+    for (counts, answer) in [
+        ([half, half - 1], Ok(u64::MAX)),
+        ([half, half], above),
+        ([most, 1], above),
+        ([most, most], above),
+    ] {
+        let mut made = Counting::default();
+        let [one, other] = counts.map(|n| made.counting(n));
+        assert_eq!(made.total(&[one, other]), answer);
+        assert_eq!(made.total(&[other, one]), answer);
     }
 }
 

@@ -1,5 +1,5 @@
 //! Holds the kinds to the library's own (crates/model/src/lib.rt) and their words to the sentences
-//! of document 01 (docs/SPEC-MAP.md).
+//! of documents 01 and 02 (docs/SPEC-MAP.md).
 
 use std::error::Error;
 use std::fs;
@@ -32,9 +32,25 @@ fn kinds_are_those_of_the_library() {
     }
 }
 
+/// The sentences of document 01, in small letters, with the limit that document 02 gives 9 and 11.
+fn sentences() -> String {
+    let mut sentences = read("docs/SPEC-MAP.md").to_lowercase();
+    // request (h)
+    let (_, limit) = sentences
+        .split_once("| refused: the limit in 9 and 11 becomes ")
+        .unwrap();
+    let limit = limit.split_once(". |").unwrap().0.to_string();
+    for number in [9, 11] {
+        let before = format!("above 4,294,967,295 is {number}");
+        assert!(sentences.contains(&before), "{before}");
+        sentences = sentences.replace(&before, &format!("above {limit} is {number}"));
+    }
+    sentences
+}
+
 #[test]
-fn words_are_those_of_document_01() {
-    let sentences = read("docs/SPEC-MAP.md").to_lowercase();
+fn words_are_those_of_the_documents() {
+    let sentences = sentences();
     let stands = |words: &str| sentences.contains(words);
     for &kind in Kind::ALL {
         let (words, number) = (kind.words(), kind.number());
@@ -80,8 +96,12 @@ fn refusals_print_them() {
     );
     assert_eq!(
         shown(9, 3),
-        "refused 9 at 3: a count above 4,294,967,295 (the first faulty state decides, and its \
-         number is the place)"
+        "refused 9 at 3: a count above 18,446,744,073,709,551,615 (the first faulty state decides, \
+         and its number is the place)"
+    );
+    assert_eq!(
+        shown(11, 0),
+        "refused 11 at 0: a total above 18,446,744,073,709,551,615"
     );
     assert_eq!(
         shown(14, 5),
