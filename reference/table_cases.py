@@ -5,9 +5,12 @@ by hand; drawn(draw, count) gives so many drawn cases.
 """
 
 import copy
+import math
 import random
 
-LIMIT = 4294967295
+# 'the limit in 9 and 11 becomes 18,446,744,073,709,551,615' (document 02, request (h)); before it was 4,294,967,295.
+LIMIT = 2 ** 64 - 1
+BEFORE = 2 ** 32 - 1
 
 
 class Draw:
@@ -17,7 +20,10 @@ class Draw:
         self.random = random.Random(seed).random
 
     def below(self, n):
-        return int(self.random() * n)
+        if n <= 2 ** 50:
+            return int(self.random() * n)
+        # random() has 53 bits
+        return (self.below(2 ** 48) * 2 ** 48 + self.below(2 ** 48)) * n >> 96
 
     def between(self, low, high):
         return low + self.below(high - low + 1)
@@ -271,84 +277,7 @@ def edges():
     yield (1, [0] * 66000, []), 'refused 4 0'
     yield (1, [1, 0, 0], [0] * 66000), 'refused 7 1'
 
-    # counts: 65,535 * 65,537 passes, 65,536 * 65,536 does not
-    t = Table()
-    a, b = t.counting(65535), t.counting(65537)
-    top = t.state()
-    t.row(1, top, a, b)
-    t.accepting = [top]
-    yield t.case(), f'total {LIMIT}'
-    t.row(1, t.state(), b, a)
-    yield t.case(), f'total {LIMIT}'
-    t.accepting = [top + 1, top]
-    yield t.case(), 'refused 11 0'
-    t.accepting = [top]
-    t.unit(top)
-    yield t.case(), f'refused 9 {top}'
-
-    t = Table()
-    a = t.counting(65536)
-    empty, top = t.state(), t.state()
-    t.row(1, top, a, a)
-    yield t.case(), 'total 0'
-    t.accepting = [top]
-    yield t.case(), f'refused 9 {top}'
-    for arguments in ([a, a, empty], [empty, a, a], [a, empty, a], [a] * 15 + [empty], [empty, empty]):
-        t.rows[-1] = [1, top, len(arguments), *arguments]
-        t.accepting = [top, a]
-        yield t.case(), 'total 65536'
-    # 2 ** 64, 2 ** 128 and 2 ** 256: 0 where a product keeps 64 bits
-    for arguments in ([a] * 4, [a] * 8, [a] * 16):
-        t.rows[-1] = [1, top, len(arguments), *arguments]
-        yield t.case(), f'refused 9 {top}'
-    # a row of 0 beside a row above the limit, and a row that uses a row of 0
-    t.rows[-1] = [1, top, 3, a, a, empty]
-    t.row(2, top, a, a)
-    yield t.case(), f'refused 9 {top}'
-    t.rows[-1] = [2, t.state(), 1, top]
-    t.accepting = [top + 1]
-    yield t.case(), 'total 0'
-
-    # sums of rows at and above the limit; above it also where 32 bits are kept
-    for counts, answer in (([2 ** 31, 2 ** 31 - 1], f'total {LIMIT}'), ([2 ** 31, 2 ** 31], None),
-                           ([LIMIT], f'total {LIMIT}'), ([LIMIT, 1], None), ([LIMIT, LIMIT], None)):
-        t = Table()
-        states = [t.counting(n) for n in counts]
-        top = t.state()
-        for state in states:
-            t.row(9, top, state)
-        t.accepting = [top]
-        yield t.case(), answer or f'refused 9 {top}'
-
-    # many rows of one state: sums at the limit, above it, and 2 ** 64, which is 0 where 64 bits are kept
-    for counts, rows, answer in (([2 ** 24], 255, f'total {255 * 2 ** 24}'), ([2 ** 24], 256, None),
-                                 ([2 ** 23], 511, f'total {511 * 2 ** 23}'), ([2 ** 23], 512, None),
-                                 ([2 ** 31, 2 ** 31], 4, None), ([2 ** 28, 2 ** 27], 512, None),
-                                 ([LIMIT, LIMIT], 800, None), ([LIMIT], 900, None)):
-        t = Table()
-        states = [t.counting(n) for n in counts]
-        top = t.state()
-        for i in range(rows):
-            t.row(100 + i % 100, top, *states, *[t.one] * (i // 100))
-        t.accepting = [top]
-        yield t.case(), answer or f'refused 9 {top}'
-
-    # the total, at the limit and above it; above it also where 32 bits are kept
-    for counts, answer in (([2 ** 31, 2 ** 31 - 1], f'total {LIMIT}'), ([2 ** 31, 2 ** 31], 'refused 11 0'),
-                           ([1, LIMIT - 1], f'total {LIMIT}'), ([1, LIMIT], 'refused 11 0')):
-        t = Table()
-        t.accepting = [t.counting(n) for n in counts]
-        yield t.case(), answer
-        t.accepting.reverse()
-        yield t.case(), answer
-        t.accepting.pop()
-        yield t.case(), f'total {counts[1]}'
-    t = Table()
-    most = t.counting(LIMIT)
-    for symbol in range(1, 151):
-        t.row(symbol, t.state(), most)
-        t.accepting.append(t.states - 1)
-    yield t.case(), 'refused 11 0'
+    yield from limit_edges()
 
     # longest trees: 2, 34, 546 and 4,096 pass, 4,098 does not
     t = Table()
@@ -389,7 +318,7 @@ def edges():
     a, b, c, d = t.lengths()
     long = t.state()
     t.row(5, long, d)
-    half = t.counting(2 ** 31)
+    half = t.counting(2 ** 63)
     large = t.state()
     t.row(5, large, half, half)
     t.accepting = [large, long]
@@ -397,7 +326,7 @@ def edges():
     t.accepting = [long, half, half]
     yield t.case(), 'refused 7 2'
     t = Table()
-    half = t.counting(2 ** 31)
+    half = t.counting(2 ** 63)
     large = t.state()
     t.row(5, large, half, half)
     a, b, c, d = t.lengths()
@@ -416,11 +345,107 @@ def edges():
     yield from used_edges()
 
 
+# 9 and 11 at the limit
+
+def within(n, refusal):
+    """The answer where n is the total, and the refusal where it is above the limit."""
+    return f'total {n}' if n <= LIMIT else refusal
+
+
+def limit_edges():
+    # a single state, listed: at and about the limit, the limit before, and 2 ** 63
+    for n in (BEFORE - 1, BEFORE, BEFORE + 1, 2 ** 33, 2 ** 63 - 1, 2 ** 63, 2 ** 63 + 1, LIMIT - 1, LIMIT, LIMIT + 1, LIMIT + 2, 2 ** 64 + BEFORE,
+              2 ** 65 - 1):
+        t = Table()
+        t.accepting = [t.counting(n)]
+        yield t.case(), within(n, f'refused 9 {lowest_above([(t.accepting[0], n)], None)}')
+
+    # counts: 4,294,967,295 * 4,294,967,297 passes, and one tree more does not; 65,535 * 65,537, before
+    for root in (2 ** 32, 2 ** 16):
+        t = Table()
+        a, b = t.counting(root - 1), t.counting(root + 1)
+        top = t.state()
+        t.row(1, top, a, b)
+        t.accepting = [top]
+        yield t.case(), f'total {root ** 2 - 1}'
+        t.row(1, t.state(), b, a)
+        yield t.case(), f'total {root ** 2 - 1}'
+        t.accepting = [top + 1, top]
+        yield t.case(), within(2 * root ** 2 - 2, 'refused 11 0')
+        t.accepting = [top]
+        t.unit(top)
+        yield t.case(), within(root ** 2, f'refused 9 {top}')
+
+    # 4,294,967,296 * 4,294,967,296 does not; 65,536 * 65,536, before. An empty argument in each place
+    for n in (2 ** 32, 2 ** 16):
+        t = Table()
+        a = t.counting(n)
+        empty, top = t.state(), t.state()
+        t.row(1, top, a, a)
+        yield t.case(), 'total 0'
+        t.accepting = [top]
+        yield t.case(), within(n ** 2, f'refused 9 {top}')
+        t.accepting = [top, a]
+        for arguments in ([a, a, empty], [a, empty, a], [empty, a, a], [a] * 15 + [empty], [empty, empty]):
+            t.rows[-1] = [1, top, len(arguments), *arguments]
+            yield t.case(), f'total {n}'
+        # 2 ** 64, 2 ** 128 and 2 ** 256: 0 where a product keeps 64 bits
+        for count in (2, 3, 4, 8, 16):
+            t.rows[-1] = [1, top, count] + [a] * count
+            yield t.case(), within(n ** count + n, f'refused 9 {top}')
+        # a row of 0 beside such a row, and a row that uses a row of 0
+        t.rows[-1] = [1, top, 3, a, a, empty]
+        t.row(2, top, a, a)
+        yield t.case(), within(n ** 2 + n, f'refused 9 {top}')
+        t.rows[-1] = [2, t.state(), 1, top]
+        t.accepting = [top + 1]
+        yield t.case(), 'total 0'
+
+    # sums of rows, and over the accepting list from both ends, at and above the limit: 2 ** 64 and a little more are small where 64 bits are kept
+    sums = ([LIMIT], [2 ** 63, 2 ** 63 - 1], [2 ** 63, 2 ** 63], [1, LIMIT - 1], [1, LIMIT], [2, LIMIT], [LIMIT, LIMIT], [2 ** 63, 2 ** 63, 7],
+            [2 ** 63 - 1, 2, 2 ** 63 - 1], [2 ** 62, 2 ** 63, 2 ** 62 - 1], [2 ** 62, 2 ** 63, 2 ** 62],
+            [2 ** 31, 2 ** 31 - 1], [2 ** 31, 2 ** 31], [1, BEFORE], [BEFORE, BEFORE], [BEFORE, 2 ** 32, 2 ** 33])
+    for counts in sums:
+        t = Table()
+        states = [t.counting(n) for n in counts]
+        top = t.state()
+        for state in states:
+            t.row(9, top, state)
+        t.accepting = [top]
+        yield t.case(), within(sum(counts), f'refused 9 {top}')
+        for accepting in (states, states[::-1]):
+            t.accepting = accepting
+            yield t.case(), within(sum(counts), 'refused 11 0')
+    # a total over many states: 127 and 128 times 2 ** 57, and once more; 150 times the limit
+    for n, count in ((2 ** 57, 128), (LIMIT, 150)):
+        t = Table()
+        most = t.counting(n)
+        for symbol in range(1, count + 1):
+            t.row(symbol, t.state(), most)
+        for listed in (range(most + 2, t.states), range(most + 1, t.states), range(most, t.states)):
+            t.accepting = list(listed)
+            yield t.case(), within(n * len(listed), 'refused 11 0')
+
+    # many rows of one state: sums at the limit and above it; 2 ** 64 is 0 where 64 bits are kept, and with one row more it is small
+    for counts, rows in (([2 ** 56], 255), ([2 ** 56], 256), ([2 ** 56], 257), ([2 ** 55], 511), ([2 ** 55], 512), ([2 ** 55], 513),
+                         ([2 ** 31, 2 ** 31], 3), ([2 ** 31, 2 ** 31], 4), ([2 ** 28, 2 ** 27], 511), ([2 ** 28, 2 ** 27], 512), ([LIMIT, LIMIT], 600),
+                         ([LIMIT], 700), ([BEFORE, BEFORE], 2), ([2 ** 24], 256), ([2 ** 23], 512), ([BEFORE], 900)):
+        t = Table()
+        states = [t.counting(n) for n in counts]
+        top = t.state()
+        for i in range(rows):
+            t.row(100 + i % 100, top, *states, *[t.one] * (i // 100))
+        t.accepting = [top]
+        yield t.case(), within(math.prod(counts) * rows, f'refused 9 {top}')
+
+
 # 9 and 10 of used states only (document 02, request (c))
 
 def beyond(t, kind):
-    """A state above a limit over lower ones that are within it: it counts 2 ** 62, or has a tree of 4,098 entries, or both."""
-    half = t.counting(2 ** 31) if kind != 'long' else None
+    """A state above a limit over lower ones that are within it: it counts 2 ** 64, which is 0 where 64 bits are kept, or has a tree of 4,098 entries, or
+    both.
+    """
+    half = t.counting(2 ** 32) if kind != 'long' else None
     longest = t.lengths()[3] if kind != 'big' else None
     state = t.state()
     if half is not None:
@@ -520,34 +545,34 @@ def two_beyond():
 
 def lowest_above(chains, otherwise):
     """Of states that `counting` has made, and what they count: the lowest state above the limit in their chains. Each state of a
-    chain has one binary digit more than the one before it, and the first with 33 is above the limit.
+    chain has one binary digit more than the one before it, and the first with 65 is above the limit.
     """
-    return min((state - (n.bit_length() - 33) for state, n in chains if n > LIMIT), default=otherwise)
+    return min((state - (n.bit_length() - 65) for state, n in chains if n > LIMIT), default=otherwise)
 
 
 def product_edges():
-    """The 64-bit edges of products and sums: 2 ** 64 - 1 and 2 ** 64, which is 0 where 64 bits are kept."""
-    for counts in ([2 ** 32 - 1, 2 ** 32 + 1], [2 ** 32, 2 ** 32], [2 ** 32 - 1, 2 ** 32 - 1], [2 ** 31, 2 ** 33], [2 ** 32 - 1, 2 ** 32], [2 ** 64 - 1, 1],
+    """Products and sums at the limit, of states that are used and of such that are not: 2 ** 64 is 0 where 64 bits are kept, and a little more is small."""
+    third, fifth = (2 ** 64 + 2) // 3, (2 ** 64 + 4) // 5
+    assert 3 * third == 2 ** 64 + 2 and 5 * fifth == 2 ** 64 + 4
+    for counts in ([2 ** 32 - 1, 2 ** 32 + 1], [2 ** 32, 2 ** 32], [2 ** 32 - 1, 2 ** 32 - 1], [2 ** 31, 2 ** 33], [2 ** 32 - 1, 2 ** 32],
+                   [2 ** 32 + 1, 2 ** 32 + 1], [LIMIT, 1], [2 ** 63, 2], [2 ** 63, 3], [third, 3], [third - 1, 3], [fifth, 5], [2 ** 64, 1],
                    [2 ** 64, 2 ** 64]):
         t = Table()
         a, b = (t.counting(n) for n in counts)
         empty, leaf, top = t.state(), t.state(), t.state()
         t.row(t.leaf_symbol(), leaf)
+        product = math.prod(counts)
         first = lowest_above(zip((a, b), counts), top)
-        for arguments in ([a, b], [b, leaf, a]):
+        for arguments, accepting, n in (([a, b], [top], product), ([a, b], [leaf], 1), ([b, leaf, a], [top], product), ([b, leaf, a], [leaf, top], product + 1),
+                                        ([a, b, empty], [leaf, top], 1), ([b, empty, a], [leaf, top], 1), ([empty, a, b], [leaf, top], 1),
+                                        ([b, a] + [b] * 13 + [empty], [leaf, top], 1)):
             t.row(1, top, *arguments)
-            t.accepting = [leaf]
-            yield t, 'total 1'
-            t.accepting = [leaf, top]
-            yield t, f'refused 9 {first}'
+            t.accepting = accepting
+            yield t, within(n, 'refused 11 0' if product <= LIMIT else f'refused 9 {first}')
             t.rows.pop()
-        for arguments in ([a, b, empty], [b, empty, a], [empty, a, b], [b, a] + [b] * 13 + [empty]):
-            t.row(1, top, *arguments)
-            t.accepting = [leaf, top]
-            yield t, 'total 1'
-            t.rows.pop()
-    # counts within the limit whose product is 2 ** 64, or a little less and more; then rows over such a state
-    for counts in ([2 ** 22, 2 ** 21, 2 ** 21], [2 ** 16] * 4, [2 ** 32 - 1, 2 ** 31, 2], [2 ** 32 - 1] * 3, [2 ** 31] * 16, [2 ** 4] * 16, [2 ** 8] * 8):
+    # counts within the limit whose product is 2 ** 64 or more; then rows over such a state
+    for counts in ([2 ** 22, 2 ** 21, 2 ** 21], [2 ** 16] * 4, [2 ** 32 - 1, 2 ** 31, 4], [2 ** 32 - 1] * 3, [2 ** 63] * 16, [2 ** 4] * 16, [2 ** 8] * 8,
+                   [third, 3, 1, 7]):
         t = Table()
         kept = {n: t.counting(n) for n in sorted({*counts})}
         empty, leaf, big, top = t.state(), t.state(), t.state(), t.state()
@@ -563,8 +588,8 @@ def product_edges():
             t.accepting = [top, leaf]
             yield t, answer or f'refused 9 {big}'
             t.rows.pop()
-    # sums of rows: 2 ** 64 - 1, 2 ** 64, and 2 ** 64 and more in between; then a row over such a state
-    for counts in ([2 ** 63, 2 ** 63 - 1], [2 ** 63, 2 ** 63], [2 ** 64 - 1, 1], [2 ** 64, 2 ** 64], [2 ** 64 - 1, 2 ** 64 - 1, 2], [2 ** 62] * 4):
+    # sums of rows: the limit, 2 ** 64, and 2 ** 64 and more in between; then a row over such a state, which is above the limit anyway
+    for counts in ([2 ** 63, 2 ** 63 - 1], [2 ** 63, 2 ** 63], [LIMIT, 1], [2 ** 64, 2 ** 64], [LIMIT, LIMIT, 2], [2 ** 62] * 4):
         t = Table()
         kept = {n: t.counting(n) for n in sorted({*counts})}
         leaf, big, top = t.state(), t.state(), t.state()
@@ -572,10 +597,28 @@ def product_edges():
         for i, n in enumerate(counts):
             t.row(1 + i, big, kept[n])
         t.row(9, top, big, big)
+        first = lowest_above(((state, n) for n, state in kept.items()), big)
         t.accepting = [leaf]
         yield t, 'total 1'
+        t.accepting = [big]
+        yield t, within(sum(counts), f'refused 9 {first}')
         t.accepting = [top, leaf]
-        yield t, f'refused 9 {lowest_above(((state, n) for n, state in kept.items()), big)}'
+        yield t, f'refused 9 {first if sum(counts) > LIMIT else top}'
+    # a total at the limit, beside states that are in no accepted tree: one within the limit, and some above it
+    t = Table()
+    most = t.counting(LIMIT)
+    leaf, listed = t.state(), t.state()
+    t.row(t.leaf_symbol(), leaf)
+    t.row(1, listed, most)
+    t.row(2, t.state(), most)
+    t.row(3, t.state(), most)
+    t.row(4, t.states - 1, leaf)
+    t.row(5, t.state(), *[most] * 16)
+    for accepting, answer in (([listed], f'total {LIMIT}'), ([most], f'total {LIMIT}'), ([listed, leaf], 'refused 11 0'), ([leaf, most], 'refused 11 0'),
+                              ([listed, listed + 1], 'refused 11 0'), ([leaf], 'total 1'), ([most, listed + 2], f'refused 9 {listed + 2}'),
+                              ([listed + 3, leaf], f'refused 9 {listed + 3}')):
+        t.accepting = accepting
+        yield t, answer
 
 
 def chain_edges():
@@ -590,9 +633,9 @@ def chain_edges():
         t.row(9, state, below, sixteen, sixteen)
     assert t.states == 133
     yield t, 'total 12'
-    # 16 ** 7 is 2 ** 28, 16 ** 9 is 2 ** 36: state 8 passes, state 9 does not
-    for accepting, answer in (([132], 'refused 9 9'), ([2, 9], 'refused 9 9'), ([2, 4, 8], f'total {12 + 16 ** 7}'),
-                              ([7, 2, 4], f'total {12 + 16 ** 5}'), ([7, 6, 5], f'total {16 ** 5 + 16 ** 3 + 16}')):
+    # 16 ** 15 is 2 ** 60, 16 ** 17 is 2 ** 68: state 12 passes, state 13 does not
+    for accepting, answer in (([132], 'refused 9 13'), ([2, 13], 'refused 9 13'), ([2, 4, 12], f'total {12 + 16 ** 15}'), ([2, 9], f'total {2 + 16 ** 9}'),
+                              ([2, 4, 8], f'total {12 + 16 ** 7}'), ([12, 11, 5], f'total {16 ** 15 + 16 ** 13 + 16}')):
         t.accepting = accepting
         yield t, answer
     # over it, states of 16 arguments each: 16 ** 255 to the 16th, and so on
@@ -600,7 +643,7 @@ def chain_edges():
         below, state = t.states - 1, t.state()
         t.row(9, state, *[below] * 16)
     assert t.states == 256
-    for accepting, answer in (([2, 4], 'total 12'), ([255], 'refused 9 9'), ([8, 2], f'total {16 ** 7 + 2}')):
+    for accepting, answer in (([2, 4], 'total 12'), ([255], 'refused 9 13'), ([12, 2], f'total {16 ** 15 + 2}')):
         t.accepting = accepting
         yield t, answer
 
@@ -632,21 +675,22 @@ def chain_edges():
         t.accepting = [0, 23, 11]
         yield t, fault
 
-    # doubling: state q counts 2 ** (q + 1). Used from 31 up is a fault, at 31
+    # doubling: state q counts 2 ** (q + 1). Used from 63 up is a fault, at 63
     t = Table(80, [[1, 0, 0], [2, 0, 0]] + [[symbol, q, 1, q - 1] for q in range(1, 80) for symbol in (1, 2)])
-    for accepting, answer in (([], 'total 0'), ([30], f'total {2 ** 31}'), ([31], 'refused 9 31'), ([63], 'refused 9 31'), ([64], 'refused 9 31'),
-                              ([79], 'refused 9 31'), (list(range(31)), f'total {2 ** 32 - 2}')):
+    for accepting, answer in (([], 'total 0'), ([30], f'total {2 ** 31}'), ([31], f'total {2 ** 32}'), ([32], f'total {2 ** 33}'), ([62], f'total {2 ** 63}'),
+                              ([63], 'refused 9 63'), ([64], 'refused 9 63'), ([79], 'refused 9 63'), (list(range(31)), f'total {2 ** 32 - 2}'),
+                              (list(range(32)), f'total {2 ** 33 - 2}'), (list(range(63)), f'total {2 ** 64 - 2}'), (list(range(64)), 'refused 9 63')):
         t.accepting = accepting
         yield t, answer
-    # 11 where other states are above the limits, unused; 9 comes before it
-    t.row(3, 30, 0)
-    t.row(3, 29, 1)   # state 29 counts 2 ** 30 + 4, state 30 twice that and 2
-    t.accepting = [30, 29, 28, 27, 0]
-    yield t, f'total {2 ** 31 + 10 + 2 ** 30 + 4 + 2 ** 29 + 2 ** 28 + 2}'
-    t.accepting = list(range(31))
+    # 11 where other states are above the limits, unused; 9 comes before it. All from 0 to 62 make 2 ** 64 + 12
+    t.row(3, 62, 0)
+    t.row(3, 61, 1)   # state 61 counts 2 ** 62 + 4, state 62 twice that and 2
+    t.accepting = [62, 61, 60, 59, 0]
+    yield t, f'total {2 ** 63 + 10 + 2 ** 62 + 4 + 2 ** 61 + 2 ** 60 + 2}'
+    t.accepting = list(range(63))
     yield t, 'refused 11 0'
-    t.accepting = list(range(31)) + [79]
-    yield t, 'refused 9 31'
+    t.accepting = list(range(63)) + [79]
+    yield t, 'refused 9 63'
 
 
 def many_used_edges():
@@ -720,18 +764,18 @@ def many_used_edges():
     t.accepting = [255]
     yield t, f'total {992 - 208 - 15}'
 
-    # half unused: the rows of states 144 to 255 are over any lower states, most of them over such too, and count far too much
-    targets = [(32 + i % 112, over_leaves) for i in range(496)]
+    # half unused: the rows of states 63 to 255 are over any lower states but the leaves, most of them over such too, and count far too much
+    targets = [(32 + i % 31, over_leaves) for i in range(496)]
     for i in range(496):
-        target = 144 + i % 112
+        target = 63 + i % 193
         targets.append((target, lambda target=target: [draw.between(32, target - 1) for _ in range(16)]))
     t = with_rows(targets)
     t.rows = draw.shuffled(t.rows)
-    t.accepting = draw.shuffled(range(144))
+    t.accepting = draw.shuffled(range(63))
     yield t, 'total 528'
-    # used after all: state 144 is over 16 states that count 4 and 5, in each of its rows
-    t.accepting = [32, 144]
-    yield t, 'refused 9 144'
+    # used after all: state 63 is over 16 states that count 16, in each of its rows
+    t.accepting = [32, 63]
+    yield t, 'refused 9 63'
 
 
 def used_edges():
@@ -847,13 +891,13 @@ def half_drawn(draw, t):
 
 
 def squares(draw, t):
-    """Five states that count 2, 4, 16, 256 and 65,536, with leaves that t does not have."""
-    chain = Table(5)
+    """Six states that count 2, 4, 16, 256, 65,536 and 4,294,967,296, with leaves that t does not have."""
+    chain = Table(6)
     used = {row[0] for row in t.rows if row[2] == 0}
     free = [symbol for symbol in range(1, 256) if symbol not in used]
     chain.row(free[0], 0)
     chain.row(free[1], 0)
-    for state in range(1, 5):
+    for state in range(1, 6):
         chain.row(draw.between(1, 255), state, state - 1, state - 1)
     return chain
 
@@ -939,7 +983,7 @@ def user(draw, chain):
 
 def fault_9(draw, t, i):
     chain = squares(draw, t)
-    arguments = draw.pick([[4, 4], [3, 4, 3], [4, 4, 4, 4], [4, 2, 4], [1] * 16, [3, 3, 3, 2, 1, 1]])
+    arguments = draw.pick([[5, 5], [4, 5, 4], [5, 5, 5, 5], [5, 2, 5], [2] * 16, [4, 4, 4, 3, 2, 1, 1]])
     chain.row(draw.between(1, 255), chain.state(), *arguments)
     merged(draw, t, chain, user(draw, chain))
 
@@ -958,9 +1002,9 @@ def fault_10(draw, t, i):
 def fault_11(draw, t, i):
     chain = squares(draw, t)
     first = draw.between(1, 254)
-    chain.row(first, chain.state(), 0, 1, 2, 3, 4)
-    chain.row(first + 1, chain.state(), 0, 1, 2, 3, 4)
-    merged(draw, t, chain, [5, 6])
+    chain.row(first, chain.state(), 0, 1, 2, 3, 4, 5)
+    chain.row(first + 1, chain.state(), 0, 1, 2, 3, 4, 5)
+    merged(draw, t, chain, [6, 7])
 
 
 FAULTS = {1: fault_1, 2: fault_2, 3: fault_3, 4: fault_4, 5: fault_5, 6: fault_6, 7: fault_7, 9: fault_9,

@@ -6,7 +6,7 @@ numbers of so many small tables, with answers from the trees listed one by one; 
 many larger tables.
 """
 
-from table_cases import LIMIT, PAPER, Table, any_sound, edges as table_edges, flat, half_drawn, many_rows, sound
+from table_cases import BEFORE, LIMIT, PAPER, Table, any_sound, edges as table_edges, flat, half_drawn, many_rows, sound
 from term_cases import NO_TREES, edited_tree, room, some_room
 from treenum_reference import Counts, Row, all_trees, check, list_of, refused, refused_place, trees_in_order, whole_rows, write
 
@@ -36,11 +36,16 @@ def written(table, k, tree):
     return (WRITE, *table, k, room(len(tree))), f'result {len(tree)}', tree
 
 
-def both(table, k, tree):
-    """Number k is that of the tree, there and back; also into lists that are short and longer."""
-    n = len(tree)
+def there_and_back(table, k, tree):
+    """Number k is that of the tree."""
     yield number(table, tree, f'result {k}')
     yield written(table, k, tree)
+
+
+def both(table, k, tree):
+    """The same; also into lists that are short and longer."""
+    n = len(tree)
+    yield from there_and_back(table, k, tree)
     for count in (0, n - 1):
         yield (WRITE, *table, k, room(count)), f'refused 16 {n}', None
     yield (WRITE, *table, k, room(n + 3)), f'result {n}', tree + room(n + 3)[n:]
@@ -69,7 +74,7 @@ STUCK = [
 ]
 
 # more than fits 32 bits, 63 bits; less where a number is cut to 32 or 16 bits
-LARGE = [12, 13, 255, 256, 65535, 65536, 65536 + 3, 99999, 2 ** 31, LIMIT, LIMIT + 1, LIMIT + 2, 2 ** 32 + 11, 2 ** 33, 2 ** 63,
+LARGE = [12, 13, 255, 256, 65535, 65536, 65536 + 3, 99999, 2 ** 31, BEFORE, 2 ** 32, 2 ** 32 + 1, 2 ** 32 + 11, 2 ** 33, 2 ** 63,
          2 ** 63 + 5, 2 ** 64 - 12, 2 ** 64 - 2, 2 ** 64 - 1]
 
 
@@ -83,8 +88,7 @@ def paper_edges():
                              ([0, 1, 2, 3, 4], [a(), b()] + TWO + THREE + FOUR), ([4, 3, 2, 1, 0], FOUR + THREE + TWO + [b(), a()])):
         table = (5, rows, accepting)
         for k, tree in enumerate(trees):
-            yield number(table, tree, f'result {k}')
-            yield written(table, k, tree)
+            yield from there_and_back(table, k, tree)
         for tree in [a(), b()] + TWO + THREE + FOUR:
             if tree not in trees:
                 yield number(table, tree, f'refused 14 {len(tree) - 1}')
@@ -93,8 +97,7 @@ def paper_edges():
     table = (5, flat(PAPER[::-1]), [2, 4])
     trees = [b(x, y, b()) for x in TWO[::-1] for y in THREE[::-1]] + [a(x, y) for x in TWO[::-1] for y in TWO[::-1]]
     for k, tree in enumerate(TWO[::-1] + trees):
-        yield number(table, tree, f'result {k}')
-        yield written(table, k, tree)
+        yield from there_and_back(table, k, tree)
 
     # 14: no state, or one that is not listed
     for tree in (a(), b(), *THREE):
@@ -199,55 +202,166 @@ def empty_edges():
     table = (5, flat(rows), [3, 4, 1])
     for k in range(12):
         tree = node(5, trees[6 + k // 6], trees[k % 6])
-        yield number(table, tree, f'result {k}')
-        yield written(table, k, tree)
+        yield from there_and_back(table, k, tree)
     yield from both(table, 12, [7, 0])
     yield (WRITE, *table, 13, room(9)), 'refused 15 0', None
     # accepting lists of states that count 0
     for k in (0, 1, 2 ** 32):
         yield (WRITE, 5, flat(rows), [1, 3], k, room(9)), 'refused 15 0', None
     yield number((5, flat(rows), [1, 3]), a(), 'refused 14 1')
-    # 65,536 * 65,536 * 0 before a row that counts 1: the row is passed over
-    squares = [[1, 0, 0], [2, 0, 0], [1, 1, 2, 0, 0], [1, 2, 2, 1, 1], [1, 3, 2, 2, 2], [1, 4, 2, 3, 3]]
-    table = (7, flat(squares + [[1, 6, 3, 4, 4, 5], [1, 6, 3, 5, 4, 4], [9, 6, 1, 0]]), [5, 6])
-    yield from both(table, 0, node(9, a()))
-    yield from both(table, 1, node(9, b()))
-    yield (WRITE, *table, 2, room(9)), 'refused 15 0', None
+    # 4,294,967,296 twice and 0, in each order, before a row that counts 2, between two and after it: the rows are passed over
+    squares = [[1, q, 2, q - 1, q - 1] for q in range(1, 6)]
+    zeros = [[1, 7, 3, 5, 5, 6], [1, 7, 3, 5, 6, 5], [1, 7, 3, 6, 5, 5]]
+    for rows in (zeros + [[9, 7, 1, 0], [8, 7, 1, 0]], [[9, 7, 1, 0], *zeros, [8, 7, 1, 0]], [[9, 7, 1, 0], [8, 7, 1, 0]] + zeros):
+        table = (8, flat([[1, 0, 0], [2, 0, 0]] + squares + rows), [6, 7])
+        for k, tree in enumerate((node(9, a()), node(9, b()), node(8, a()), node(8, b()))):
+            yield from there_and_back(table, k, tree)
+        yield (WRITE, *table, 4, room(9)), 'refused 15 0', None
+
+
+def halving(states):
+    """State q counts 2 ** (q + 1) - 1: its leaf, which has the symbol 10 + q, a(..) and b(..), each over the state below."""
+    rows = []
+    for q in range(states):
+        rows += [[10 + q, q, 0]] + [[symbol, q, 1, q - 1] for symbol in (1, 2) if q > 0]
+    return rows
+
+
+def halved(q, k):
+    """The tree of value k in state q of those: the leaf, then as many with a as with b."""
+    if k == 0:
+        return [10 + q, 0]
+    return a(halved(q - 1, k - 1)) if k < 2 ** q else b(halved(q - 1, k - 2 ** q))
+
+
+def bits_of(k, count):
+    """The tree whose nodes, each but the last over the next, are a and b by the binary digits of k."""
+    return [1 + int(bit) for bit in format(k, f'0{count}b')] + [0] * count
+
+
+# numbers that 31, 32, 53 or 63 bits do not hold, and those below them
+NOTABLE = [2 ** 31 - 1, 2 ** 31, 2 ** 32 - 2, 2 ** 32 - 1, 2 ** 32, 2 ** 32 + 1, 2 ** 53 + 1, 2 ** 63 - 1, 2 ** 63, 2 ** 63 + 1, 0xFEDCBA9876543210]
 
 
 def sums_edges():
-    """Numbers up to 4,294,967,294."""
-    # state k counts 2 ** (k + 1) - 1: its leaf, a(..) and b(..)
-    rows = []
-    for k in range(32):
-        rows += [[10 + k, k, 0]] + [[symbol, k, 1, k - 1] for symbol in (1, 2) if k > 0]
+    """Numbers up to 18,446,744,073,709,551,614, and those up to 4,294,967,294 of the tables that had the most before."""
+    for n in (32, 64):
+        yield from halving_edges(n)
+        yield from product_edges(n // 2)
+    yield from digits_edges()
+    yield from near_edges()
+
+
+def halving_edges(n):
+    """Tables with totals near 2 ** n."""
+    rows = halving(n)
     # the last of state k: b(b(..b(leaf of 0)))
-    last = [[2] * k + [10] + [0] * (k + 1) for k in range(32)]
-    table = (32, flat(rows), [31])
-    for k, tree in ((0, [41, 0]), (1, [1, 40, 0, 0]), (2, [1, 1, 39, 0, 0, 0]), (31, [1] * 31 + [10] + [0] * 32), (2 ** 31 - 1, a(last[30])),
-                    (2 ** 31, b([40, 0])), (2 ** 31 + 1, b(a([39, 0]))), (LIMIT - 2, [2] * 30 + [1, 10] + [0] * 32), (LIMIT - 1, last[31])):
+    last = [[2] * k + [10] + [0] * (k + 1) for k in range(n)]
+    table = (n, flat(rows), [n - 1])
+    total = 2 ** n - 1
+    half = 2 ** (n - 1)
+    for k, tree in ((0, [9 + n, 0]), (1, [1, 8 + n, 0, 0]), (2, [1, 1, 7 + n, 0, 0, 0]), (n - 1, [1] * (n - 1) + [10] + [0] * n), (half - 1, a(last[n - 2])),
+                    (half, b([8 + n, 0])), (half + 1, b(a([7 + n, 0]))), (total - 2, [2] * (n - 2) + [1, 10] + [0] * n), (total - 1, last[n - 1])):
+        assert tree == halved(n - 1, k)
         yield from both(table, k, tree)
-    for k in (LIMIT, LIMIT + 1, 2 ** 33 - 2, 2 ** 64 - 1):
-        yield (WRITE, *table, k, room(70)), 'refused 15 0', None
-    # all states from 30 down to 0 listed: their sum is 2 ** 32 - 33
-    table = (32, flat(rows), list(range(30, -1, -1)))
-    for k, tree in ((0, [40, 0]), (2 ** 31 - 2, last[30]), (2 ** 31 - 1, [39, 0]), (2 ** 31 + 2 ** 30 - 3, last[29]), (2 ** 31 + 2 ** 30 - 2, [38, 0]),
-                    (2 ** 32 - 33 - 4, [11, 0]), (2 ** 32 - 33 - 2, last[1]), (2 ** 32 - 33 - 1, [10, 0])):
+    for k in NOTABLE:
+        if 2 ** 31 < k < total - 2:
+            yield from there_and_back(table, k, halved(n - 1, k))
+    for k in (total, total + 1, 2 ** 33 - 2, 2 ** 63, LIMIT) if n == 32 else (LIMIT,):
+        yield (WRITE, *table, k, room(140)), 'refused 15 0', None
+    # all states but the last listed, from the highest down
+    table = (n, flat(rows), list(range(n - 2, -1, -1)))
+    total = 2 ** n - n - 1
+    high, next_high = half - 1, half // 2 - 1   # what the first two count
+    for k, tree in ((0, [8 + n, 0]), (high - 1, last[n - 2]), (high, [7 + n, 0]), (high + next_high - 1, last[n - 3]), (high + next_high, [6 + n, 0]),
+                    (total - 4, [11, 0]), (total - 2, last[1]), (total - 1, [10, 0])):
+        yield from there_and_back(table, k, tree)
+    for k in (total, 2 ** n - 1):
+        yield (WRITE, *table, k, room(140)), 'refused 15 0', None
+    yield number(table, last[n - 1], f'refused 14 {2 * n - 1}')
+    # and from 0 up
+    table = (n, flat(rows), list(range(n - 1)))
+    for k, tree in ((0, [10, 0]), (1, [11, 0]), (3, last[1]), (4, [12, 0]), (half - n, [8 + n, 0]), (total - 1, last[n - 2])):
+        yield from there_and_back(table, k, tree)
+    yield (WRITE, *table, total, room(140)), 'refused 15 0', None
+
+
+def product_edges(n):
+    """(2 ** n - 1) * (2 ** n + 1) trees, of a row over state n - 1 of `halving` and state n, which has the rows c(..) over n - 1, 200 and 201. So a number is
+    2 ** n + 1 times the first value plus the second.
+    """
+    rows = halving(n) + [[3, n, 1, n - 1], [200, n, 0], [201, n, 0], [4, n + 1, 2, n - 1, n]]
+    table = (n + 2, flat(rows), [n + 1])
+    more, total = 2 ** n + 1, 2 ** (2 * n) - 1
+
+    def tree(first, second):
+        return node(4, halved(n - 1, first), [202 + second - more, 0] if second >= more - 2 else node(3, halved(n - 1, second)))
+
+    leaf, last = [9 + n, 0], [2] * (n - 1) + [10] + [0] * n
+    for k, expected in ((0, node(4, leaf, node(3, leaf))), (more - 3, node(4, leaf, node(3, last))), (more - 2, node(4, leaf, [200, 0])),
+                        (more - 1, node(4, leaf, [201, 0])), (more, node(4, a([8 + n, 0]), node(3, leaf))), (total - more, node(4, last, node(3, leaf))),
+                        (total - 1, node(4, last, [201, 0]))):
+        assert expected == tree(k // more, k % more)
+        yield from both(table, k, expected)
+    for first, second in ((0, 1), (1, more - 1), (2 ** (n - 1), more - 2), (2 ** (n - 1), 2 ** (n - 1)), (more - 3, more - 2)):
+        yield from there_and_back(table, first * more + second, tree(first, second))
+    for k in NOTABLE:
+        if 2 ** 32 <= k < total:
+            yield from there_and_back(table, k, tree(k // more, k % more))
+    for k in sorted({total, LIMIT}):
+        yield (WRITE, *table, k, room(140)), 'refused 15 0', None
+    # the arguments' trees are not listed, the greatest value among them
+    for other in (last, [201, 0], node(3, last)):
+        yield number(table, other, f'refused 14 {len(other) - 1}')
+
+
+def near_edges():
+    """Sums of earlier rows, and of accepting states listed earlier, up to the limit; unused states and unlisted ones beside them."""
+    # state q, up to 63, counts 2 ** (q + 1), and values are the bits of its trees, the root's the highest; state 64 is empty. The rows of state 65 count
+    # 2 ** 63, 0, 2 ** 62, 2 ** 61 and so on down to 4, 0, 2 and 1. State 66 counts 2 more, state 67 the square
+    doubling = [[1, 0, 0], [2, 0, 0]] + [[symbol, q, 1, q - 1] for q in range(1, 64) for symbol in (1, 2)]
+    rows = doubling + [[3, 65, 1, 62], [3, 65, 3, 63, 62, 64], [4, 65, 1, 61]] + [[5, 65, 1, q] for q in range(60, 0, -1)]
+    rows += [[6, 65, 1, 64], [7, 65, 1, 0], [8, 65, 0], [9, 66, 1, 65], [8, 66, 1, 0], [9, 67, 2, 65, 65]]
+    table = (68, flat(rows), [65])
+    whole = node(3, bits_of(2 ** 63 - 1, 63))
+    for k, tree in ((0, node(3, bits_of(0, 63))), (2 ** 63 - 1, whole), (2 ** 63, node(4, bits_of(0, 62))),
+                    (2 ** 63 + 2 ** 62 - 1, node(4, bits_of(2 ** 62 - 1, 62))), (2 ** 63 + 2 ** 62, node(5, bits_of(0, 61))), (LIMIT - 7, node(5, bits_of(0, 2))),
+                    (LIMIT - 4, node(5, bits_of(3, 2))), (LIMIT - 3, node(7, a())), (LIMIT - 2, node(7, b())), (LIMIT - 1, [8, 0])):
         yield from both(table, k, tree)
-    yield (WRITE, *table, 2 ** 32 - 33, room(70)), 'refused 15 0', None
-    # and from 0 up to 30
-    table = (32, flat(rows), list(range(31)))
-    for k, tree in ((0, [10, 0]), (1, [11, 0]), (3, last[1]), (4, [12, 0]), (2 ** 31 - 32, [40, 0]), (2 ** 32 - 34, last[30])):
-        yield from both(table, k, tree)
-    # 65,535 * 65,537: state 15, and state 16 with the rows c(15), 200, 201; so numbers are 65,537 times the first value plus the second
-    rows = [row for row in rows if row[1] < 16] + [[3, 16, 1, 15], [200, 16, 0], [201, 16, 0], [4, 17, 2, 15, 16]]
-    table = (18, flat(rows), [17])
-    for k, tree in ((0, node(4, [25, 0], node(3, [25, 0]))), (1, node(4, [25, 0], node(3, a([24, 0])))), (65534, node(4, [25, 0], node(3, last[15]))),
-                    (65536, node(4, [25, 0], [201, 0])), (65537, node(4, a([24, 0]), node(3, [25, 0]))), (131073, node(4, a([24, 0]), [201, 0])),
-                    (32768 * 65537 + 65535, node(4, b([24, 0]), [200, 0])), (65534 * 65537, node(4, last[15], node(3, [25, 0]))),
-                    (LIMIT - 1, node(4, last[15], [201, 0]))):
-        yield from both(table, k, tree)
-    yield (WRITE, *table, LIMIT, room(70)), 'refused 15 0', None
+    for k in NOTABLE[2:7]:
+        yield from there_and_back(table, k, node(3, bits_of(k, 63)))
+    yield (WRITE, *table, LIMIT, room(140)), 'refused 15 0', None
+    # trees of states that are used and not listed, and of such that are not used: 2 ** 64 trees, and more
+    for tree in (bits_of(2 ** 63 - 1, 63), bits_of(2 ** 64 - 1, 64), node(9, [8, 0]), node(8, b()), node(9, [8, 0], [8, 0]), node(9, whole, [8, 0]),
+                 node(9, whole, whole), node(9, whole), node(3, bits_of(2 ** 64 - 1, 64), bits_of(2 ** 63 - 1, 63))):
+        yield number(table, tree, f'refused 14 {len(tree) - 1}')
+    yield number(table, bits_of(2 ** 65 - 1, 65), 'refused 14 129')
+    yield number(table, node(9, whole, [8, 0], whole), f'refused 14 {2 * len(whole) + 3}')
+    yield number(table, node(9, [8, 0], node(9, [8, 0]), [10, 0]), 'refused 14 8')
+    # listed with another: 11, and 9 before it
+    for accepting, answer in (([65, 0], 'refused 11 0'), ([62, 65], 'refused 11 0'), ([65, 66], 'refused 9 66'), ([67], 'refused 9 67'),
+                              ([63], 'refused 9 63')):
+        yield number((68, flat(rows), accepting), [8, 0], answer)
+        yield (WRITE, 68, flat(rows), accepting, 0, room(2)), answer, None
+
+    # totals of 2 ** 63, of 2 ** 63 + 2, and of 2 ** 64 - 2, by accepting lists in both orders; state 63 is unused
+    states = list(range(62, -1, -1))
+    for accepting, cases in (([62], ((0, 0, 63), (2 ** 63 - 1, 2 ** 63 - 1, 63))),
+                             ([62, 0], ((2 ** 63 - 1, 2 ** 63 - 1, 63), (2 ** 63, 0, 1), (2 ** 63 + 1, 1, 1))),
+                             ([0, 62], ((0, 0, 1), (1, 1, 1), (2, 0, 63), (2 ** 63 + 1, 2 ** 63 - 1, 63))),
+                             (states, ((2 ** 63 - 1, 2 ** 63 - 1, 63), (2 ** 63, 0, 62), (2 ** 64 - 5, 3, 2), (2 ** 64 - 4, 0, 1), (2 ** 64 - 3, 1, 1))),
+                             (states[::-1], ((0, 0, 1), (2, 0, 2), (2 ** 32 - 2, 0, 32), (2 ** 63 - 3, 2 ** 62 - 1, 62), (2 ** 63 - 2, 0, 63),
+                                             (2 ** 64 - 3, 2 ** 63 - 1, 63)))):
+        table = (64, flat(doubling), accepting)
+        for k, value, length in cases:
+            yield from (both if k == cases[-1][0] else there_and_back)(table, k, bits_of(value, length))
+        yield (WRITE, *table, cases[-1][0] + 1, room(130)), 'refused 15 0', None
+        yield (WRITE, *table, LIMIT, room(130)), 'refused 15 0', None
+        yield number(table, bits_of(2 ** 64 - 1, 64), 'refused 14 127')
+
+
+def digits_edges():
+    """Rows over leaves: a number's digits are its tree's leaves."""
     # a row of 16 arguments that count 2: the number's bits, the first child for the highest
     table = (2, [1, 0, 0, 2, 0, 0, 3, 1, 16] + [0] * 16, [0, 1])
     for k in (0, 1, 2, 255, 256, 32767, 32768, 43690, 65534, 65535):
@@ -258,6 +372,16 @@ def sums_edges():
     for k in (0, 9, 10, 12345, 99998, 99999):
         yield from both(table, k, node(1, *([10 + int(digit), 0] for digit in format(k, '05'))))
     yield (WRITE, *table, 100000, room(40)), 'refused 15 0', None
+    # of a row of 16 arguments, the first of which counts 10, 15 or 15, and the others 10, 15 or 16
+    for first, base in ((10, 10), (15, 15), (15, 16)):
+        leaves = [[10 + digit, 0, 0] for digit in range(first)] + [[30 + digit, 1, 0] for digit in range(base)]
+        table = (3, flat(leaves + [[1, 2, 16, 0] + [1] * 15]), [2])
+        total = first * base ** 15
+        for k in (0, base ** 15 - 1, base ** 15, total - 1, *NOTABLE[3:]):
+            if k < total:
+                digits = [k // base ** i % base for i in range(14, -1, -1)]
+                yield from there_and_back(table, k, node(1, [10 + k // base ** 15, 0], *([30 + digit, 0] for digit in digits)))
+        yield (WRITE, *table, total, room(40)), 'refused 15 0', None
 
 
 def many_edges():
@@ -290,8 +414,7 @@ def unused_edges():
     rows = flat(PAPER + [[3, 5, 2, 4, 4], [3, 6, 16] + [5] * 16])
     table = (7, rows, [2, 4])
     for k, tree in enumerate(TWO + FOUR):
-        yield number(table, tree, f'result {k}')
-        yield written(table, k, tree)
+        yield from there_and_back(table, k, tree)
     yield (WRITE, *table, 12, room(20)), 'refused 15 0', None
     hundred = node(3, FOUR[9], FOUR[9])   # 34 entries, the last tree of state 5
     huge = node(3, *[hundred] * 16)       # 546 entries, the last tree of state 6
@@ -348,37 +471,35 @@ def unused_edges():
     yield not_listed(table, trees[0])
     yield not_listed(table, squares[7])
 
-    # state q counts 2 ** (q + 1), and state 30 is listed: its numbers are the bits of its trees, the root's the highest
+    # state q counts 2 ** (q + 1), and state 30 or 62 is listed: its numbers are the bits of its trees, the root's the highest
     rows = flat([[1, 0, 0], [2, 0, 0]] + [[symbol, q, 1, q - 1] for q in range(1, 256) for symbol in (1, 2)])
-    table = (256, rows, [30])
-    yield number(table, [2] * 31 + [0] * 31, f'result {2 ** 31 - 1}')
-    yield not_listed(table, [2] * 256 + [0] * 256)
-    yield stuck(table, [2] * 257 + [0] * 257, 513)
-    yield stuck(table, [2] * 2048 + [0] * 2048, 2304)
-    # the same of 66 states
-    table = (66, rows[:2 * 3 + 65 * 8], [30])
-    for k in (0, 1, 2 ** 30, 2 ** 31 - 1, 0x2AAAAAAA):
-        tree = [1 + int(bit) for bit in format(k, '031b')] + [0] * 31
-        yield number(table, tree, f'result {k}')
-        yield written(table, k, tree)
-    yield (WRITE, *table, 2 ** 31, room(62)), 'refused 15 0', None
-    for depth in (30, 32, 33, 63, 64, 65, 66):
-        yield not_listed(table, [2] * depth + [0] * depth)
-    yield stuck(table, [2] * 67 + [0] * 67, 133)
-    yield stuck(table, [2] * 10 + [3] + [2] * 64 + [0] * 75, 139)
-    yield stuck(table, node(2, [2] * 64 + [0] * 64, [2] * 65 + [0] * 65), 259)
+    for n in (31, 63):
+        table = (256, rows, [n - 1])
+        yield number(table, bits_of(2 ** n - 1, n), f'result {2 ** n - 1}')
+        yield not_listed(table, [2] * 256 + [0] * 256)
+        yield stuck(table, [2] * 257 + [0] * 257, 513)
+        yield stuck(table, [2] * 2048 + [0] * 2048, 2304)
+        # the same of 66 states
+        table = (66, rows[:2 * 3 + 65 * 8], [n - 1])
+        for k in (0, 1, 2 ** (n - 1), 2 ** n - 1, 0x2AAAAAAA, 0x2AAAAAAAAAAAAAAA):
+            if k < 2 ** n:
+                yield from there_and_back(table, k, bits_of(k, n))
+        yield (WRITE, *table, 2 ** n, room(2 * n)), 'refused 15 0', None
+        for depth in (30, 32, 33, 62, 64, 65, 66):
+            yield not_listed(table, [2] * depth + [0] * depth)
+        yield stuck(table, [2] * 67 + [0] * 67, 133)
+        yield stuck(table, [2] * 10 + [3] + [2] * 64 + [0] * 75, 139)
+        yield stuck(table, node(2, [2] * 64 + [0] * 64, [2] * 65 + [0] * 65), 259)
 
-    # numbers up to 4,294,967,294 in state 31, with states above it that count up to 2 ** 71 - 1: the leaf of state k, a(..) and b(..)
-    rows = []
-    for k in range(71):
-        rows += [[10 + k, k, 0]] + [[symbol, k, 1, k - 1] for symbol in (1, 2) if k > 0]
-    table = (71, flat(rows), [31])
-    for k, tree in ((0, [41, 0]), (1, [1, 40, 0, 0]), (2 ** 31, b([40, 0])), (LIMIT - 1, [2] * 31 + [10] + [0] * 32)):
-        yield from both(table, k, tree)
-    yield (WRITE, *table, LIMIT, room(70)), 'refused 15 0', None
-    for tree in ([42, 0], b([41, 0]), b(b([41, 0])), [2] * 64 + [10] + [0] * 65, [2] * 70 + [10] + [0] * 71):
-        yield not_listed(table, tree)
-    yield stuck(table, [2] * 71 + [10] + [0] * 72, 143)
+    # numbers up to 2 ** 32 - 2 in state 31, or up to 2 ** 64 - 2 in state 63, with states above it that count up to 2 ** 71 - 1
+    for n in (32, 64):
+        table = (71, flat(halving(71)), [n - 1])
+        for k, tree in ((0, [9 + n, 0]), (1, [1, 8 + n, 0, 0]), (2 ** (n - 1), b([8 + n, 0])), (2 ** n - 2, [2] * (n - 1) + [10] + [0] * n)):
+            yield from both(table, k, tree)
+        yield (WRITE, *table, 2 ** n - 1, room(140)), 'refused 15 0', None
+        for tree in ([10 + n, 0], b([9 + n, 0]), b(b([9 + n, 0])), [2] * 64 + [10] + [0] * 65, [2] * 70 + [10] + [0] * 71):
+            yield not_listed(table, tree)
+        yield stuck(table, [2] * 71 + [10] + [0] * 72, 143)
 
     # states 4 and 5 have trees of 4,098 entries; of 4 there is one of 4,096 too, and of 5 a short one
     leaf = [9, 0]
@@ -408,10 +529,10 @@ def check_edges():
         if answer.startswith('refused') and len(case[1]) + len(case[2]) < 300:
             yield number(case, [1, 0], answer)
             yield (WRITE, *case, 0, room(2)), answer, None
-    # state 4 counts 65,536; 5 and 6 count 2 ** 31 each
-    large = [[1, 0, 0], [2, 0, 0], [1, 1, 2, 0, 0], [1, 2, 2, 1, 1], [1, 3, 2, 2, 2], [1, 4, 2, 3, 3], [3, 5, 5, 0, 1, 2, 3, 4], [4, 6, 5, 0, 1, 2, 3, 4]]
+    # state 5 counts 2 ** 32; 6 and 7 count 2 ** 63 each
+    large = [[1, 0, 0], [2, 0, 0]] + [[1, q, 2, q - 1, q - 1] for q in range(1, 6)] + [[3, 6, 6, 0, 1, 2, 3, 4, 5], [4, 7, 6, 0, 1, 2, 3, 4, 5]]
     for states, rows, accepting, answer in ((257, [1], [300], 'refused 1 0'), (5, flat(PAPER) + [1], [2, 4], 'refused 2 9'),
-                                            (5, flat(PAPER), [2, 4, 2], 'refused 7 2'), (7, flat(large), [6, 5], 'refused 11 0')):
+                                            (5, flat(PAPER), [2, 4, 2], 'refused 7 2'), (8, flat(large), [7, 6], 'refused 11 0')):
         for tree in ([1, 0], [], [0], [256], [3, 0], [1] * 4097):
             yield number((states, rows, accepting), tree, answer)
         for k in (0, 12, 2 ** 32, 2 ** 64 - 1):
@@ -561,7 +682,7 @@ def tall(draw):
 
 def some_table(draw, n):
     """A table that passes the check, with its total. Totals of all sizes."""
-    least = draw.pick([1, 1, 10, 100, 10000, 1000000, 100000000])
+    least = draw.pick([1, 1, 10, 100, 10000, 100000000, 2 ** 32, 2 ** 48, 2 ** 60])
     while True:
         if n % 100 == 99:
             t = wide(draw)
@@ -594,7 +715,7 @@ def some_number(draw, total):
     if kind == 0:
         return draw.pick([0, total - 1])
     if kind == 1:
-        return draw.pick([total, total + 1, total + 2 ** 32, 2 ** 64 - 1])
+        return min(draw.pick([total, total + 1, total + 2 ** 32, LIMIT]), 2 ** 64 - 1)
     return draw.below(total)
 
 

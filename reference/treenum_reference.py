@@ -12,8 +12,8 @@ texts are bytes.
 
 treenum_lines(bytes) gives what the program treenum prints for these bytes.
 
-Quotations are document 01's sentences; of spellings, those of document 02, request (a), and of used states, those of
-request (c).
+Quotations are document 01's sentences; of spellings, those of document 02, request (a), of used states, those of
+request (c), and of the limit on counts and totals, those of request (h).
 
 Run with --self-test: compares with document 01's own numbers, and with trees, terms and texts that are listed
 one by one.
@@ -29,6 +29,10 @@ from collections import namedtuple
 
 Row = namedtuple('Row', 'symbol target arguments')
 
+# 'a count above 4,294,967,295 is 9', 'a total above 4,294,967,295 is 11' (document 01); 'the limit in 9 and 11 becomes
+# 18,446,744,073,709,551,615' (document 02, request (h)).
+LIMIT = 18446744073709551615
+
 
 def refused(number, place=0):
     """'The place is 0 unless said otherwise.'"""
@@ -37,8 +41,8 @@ def refused(number, place=0):
 
 # Checking a table
 
-def check(states, rows, accepting):
-    """'Checking a table gives the total.'"""
+def check(states, rows, accepting, limit=LIMIT):
+    """'Checking a table gives the total.' The self test asks with lower limits too."""
 
     # 'First, more than 256 states is 1.'
     if states > 256:
@@ -64,22 +68,22 @@ def check(states, rows, accepting):
     # (accepting_tests).
 
     # 'Then states are taken in turn from 0, the first faulty state decides, and its number is the place; for
-    # each, a count above 4,294,967,295 is 9, and after that a longest tree above 4,096 entries is 10.' '9 and 10 speak
+    # each, a count above' the limit 'is 9, and after that a longest tree above 4,096 entries is 10.' '9 and 10 speak
     # of used states only, in their old places.'
     counts = Counts(table)
     used = counts.used(accepting)
     for state in range(states):
         if state not in used:
             continue
-        if counts.of_state(state) > 4294967295:
+        if counts.of_state(state) > limit:
             return refused(9, state)
         longest = counts.longest(state)
         if longest is not None and longest > 4096:
             return refused(10, state)
 
-    # 'Last, a total above 4,294,967,295 is 11.'
+    # 'Last, a total above' the limit 'is 11.'
     total = counts.total(accepting)
-    if total > 4294967295:
+    if total > limit:
         return refused(11)
     return ('total', total)
 
@@ -1208,6 +1212,61 @@ def line_tests(expect):
            b'0\n1\nrefused 14 1\nrefused 14 5\nrefused 19 2\nrefused 20 0\nrefused 20 4\n')
 
 
+def edge_tests(expect):
+    # 'Edges': 'In document 01's first edges the arguments now have 4,294,967,295 and 4,294,967,297 trees, which make the
+    # new limit and pass, and twice 4,294,967,296, which give 9.' Those are 3 * 5 * 17 * 257 * 65,537, 2 ** 32 + 1, and
+    # 2 ** 32.
+    squares = [[1, 0, 0], [2, 0, 0], [1, 1, 2, 0, 0], [1, 2, 2, 1, 1], [1, 3, 2, 2, 2], [1, 4, 2, 3, 3], [1, 5, 2, 4, 4]]
+    factors = [[3, 6, 0], [4, 6, 0], [5, 6, 0], [3, 7, 1, 1], [6, 7, 0], [3, 8, 1, 2], [7, 8, 0], [3, 9, 1, 3], [8, 9, 0], [3, 10, 1, 4], [9, 10, 0],
+               [1, 11, 4, 6, 7, 8, 9], [1, 12, 2, 10, 11], [3, 13, 1, 5], [10, 13, 0]]
+    below = list(itertools.chain.from_iterable(squares + factors))
+    counts = Counts(whole_rows(below))
+    expect('edges', [counts.of_state(state) for state in range(14)],
+           [2, 4, 16, 256, 65536, 4294967296, 3, 5, 17, 257, 65537, 65535, 4294967295, 4294967297])
+    product = below + [1, 14, 2, 12, 13]
+    expect('4,294,967,295 times 4,294,967,297', check(15, product, [14]), ('total', 18446744073709551615))
+    expect('one tree more', check(15, product + [11, 14, 0], [14]), refused(9, 14))
+    expect('one tree more, in no accepted tree', check(15, product + [11, 14, 0], [12]), ('total', 4294967295))
+    expect('one tree more in the total', check(16, product + [11, 15, 0], [14, 15]), refused(11))
+    expect('the same from the other end', check(16, product + [11, 15, 0], [15, 14]), refused(11))
+    twice = below + [2, 14, 2, 5, 5]
+    expect('4,294,967,296 twice', check(15, twice, [14]), refused(9, 14))
+    expect('4,294,967,296 twice, not used', check(15, twice, [5]), ('total', 4294967296))
+    # 'The latter with a third argument that counts 0 make a row of 0, which passes.' State 14 is empty.
+    for arguments in ([5, 5, 14], [5, 14, 5], [14, 5, 5]):
+        expect(f'4,294,967,296 twice and 0: {arguments}', check(16, below + [2, 15, 3, *arguments], [15]), ('total', 0))
+        expect(f'beside a tree: {arguments}', check(16, below + [2, 15, 3, *arguments, 11, 15, 0], [15]), ('total', 1))
+
+    # The edges of the limit before: all pass.
+    expect('65,535 times 65,537', check(15, below + [1, 14, 2, 11, 10], [14]), ('total', 4294967295))
+    expect('65,536 twice', check(14, below, [5]), ('total', 4294967296))
+    expect('a total above the limit before', check(14, below, [12, 13]), ('total', 8589934592))
+
+
+def limit_tests(expect):
+    expect('a count that is not followed is above the limit', MANY > LIMIT, True)
+    # Small tables, at each limit: what the check says by the trees, listed one by one.
+    draw = random.Random(7)
+    met = dict.fromkeys((9, 11, 'passes', 'passes, an unused state above the limit'), 0)
+    tried = 0
+    while tried < 300:
+        states, rows, accepting = small_table(draw)
+        counted = Counts(whole_rows(rows))
+        if not 1 <= counted.total(accepting) <= 60:
+            continue
+        tried += 1
+        table = whole_rows(rows)
+        counts = [len(trees_of_rows(table, state)) for state in range(states)]
+        total = sum(counts[state] for state in accepting)
+        used = counted.used_by_trees(accepting)
+        for limit in range(max(counts) + total + 2):
+            above = [state for state in sorted(used) if counts[state] > limit]
+            expected = refused(9, above[0]) if above else refused(11) if total > limit else ('total', total)
+            expect(f'at the limit {limit} {states} {rows} {accepting}', check(states, rows, accepting, limit), expected)
+            met[expected[1] if expected[0] == 'refused' else 'passes' if max(counts) <= limit else 'passes, an unused state above the limit'] += 1
+    expect('answers at limits', [kind for kind, times in met.items() if times < 100], [])
+
+
 def self_test():
     tried = failed = 0
 
@@ -1227,19 +1286,8 @@ def self_test():
     # 'No states, rows or accepting entries: total 0.'
     expect('nothing', check(0, [], []), ('total', 0))
 
-    # 'Edges': counts. State 4 counts 65,536; 6 and 7 count 65,535 and 65,537; 5 counts 0.
-    squares = [1, 0, 0, 2, 0, 0, 1, 1, 2, 0, 0, 1, 2, 2, 1, 1, 1, 3, 2, 2, 2, 1, 4, 2, 3, 3]
-    counts = Counts(whole_rows(squares))
-    expect('squares', [counts.of_state(state) for state in range(5)], [2, 4, 16, 256, 65536])
-    expect('65,536 twice', check(6, squares + [2, 5, 2, 4, 4], [5]), refused(9, 5))
-    expect('65,536 twice, not used', check(6, squares + [2, 5, 2, 4, 4], [4]), ('total', 65536))
-    expect('65,536 twice and 0', check(7, squares + [2, 6, 3, 4, 4, 5], [6]), ('total', 0))
-    # 65,535 = 3 * 5 * 17 * 257 and 65,537 = 65,536 + 1
-    factors = [3, 5, 0, 4, 5, 0, 5, 5, 0, 3, 6, 1, 1, 6, 6, 0, 3, 7, 1, 2, 7, 7, 0, 3, 8, 1, 3, 8, 8, 0,
-               1, 9, 4, 5, 6, 7, 8, 3, 10, 1, 4, 9, 10, 0]
-    expect('65,535', check(11, squares + factors, [9]), ('total', 65535))
-    expect('65,537', check(11, squares + factors, [10]), ('total', 65537))
-    expect('their product', check(12, squares + factors + [1, 11, 2, 9, 10], [11]), ('total', 4294967295))
+    edge_tests(expect)
+    limit_tests(expect)
 
     # 'Edges': longest trees. 'A leaf has 2 entries, a row of 16 leaves 34, a row of 16 of those 546. Seven of
     # 546 and eight of 34 make 4,096, which passes; one leaf more makes 4,098, which is 10.'
