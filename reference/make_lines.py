@@ -37,10 +37,15 @@ def edges():
         for spelling in (term.upper(), term.replace(b'a', b'A'), term.replace(b'b', b'B'), term.replace(b',a', b',A')):
             yield spelling, b'%d' % k
     # numbers of any length from 12 up; those that are below 12 where 8, 16, 32 or 64 bits are kept
-    for number in (12, 13, 19, 20, 99, 100, 110, 255, 256, 257, 267, 65536, 65537, 99999, 2 ** 32, 2 ** 32 + 3, 2 ** 64 - 1, 2 ** 64, 2 ** 64 + 7,
+    for number in (12, 13, 19, 20, 99, 100, 110, 255, 256, 257, 267, 65536, 65537, 99999, 2 ** 32 - 1, 2 ** 32, 2 ** 32 + 3, 2 ** 63 - 1, 2 ** 63,
+                   2 ** 64 - 2, 2 ** 64 - 1, 2 ** 64, 2 ** 64 + 4, 2 ** 64 + 7, 2 ** 64 + 11, 3 * 2 ** 64 + 5, 10 * 2 ** 64, 100 * 2 ** 64,
                    2 ** 128, 2 ** 128 + 11, 10 ** 19, 10 ** 20, 10 ** 40):
         yield b'%d' % number, b'refused 15 0'
         yield b'000%d' % number, b'refused 15 0'
+    # past 64 bits by the last digit's sum, by its product, and by a digit before it
+    for digits in (b'18446744073709551615', b'18446744073709551616', b'18446744073709551619', b'18446744073709551620', b'99999999999999999999',
+                   b'184467440737095516150', b'184467440737095516160', b'184467440737095516167', b'999999999999999999999'):
+        yield b'0' * 30 + digits, b'refused 15 0'
     for digits in (b'1' + b'0' * 199999, b'1' * 4096, b'1' * 4097, b'0' * 4095 + b'12', b'0' * 66000 + b'12', b'1' + b'0' * 4096, b'11' + b'0' * 65536):
         yield digits, b'refused 15 0'
     yield b'0' * 199998 + b'11', TERMS[11]
