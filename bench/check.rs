@@ -9,8 +9,9 @@ use std::collections::hash_map::RandomState;
 use std::collections::HashSet;
 use std::hash::{BuildHasher, BuildHasherDefault};
 use table::{
-    bucket, bucket_before, faulty, half_unused, key, last_four, library_check, logger, mix_all, packed, paper,
-    print_fullest, random_rows, treenum_check, unfinished, Maker, Table, BUCKETS, LIMIT, MULTIPLIER,
+    above_limit, bucket, bucket_before, eight_probes, faulty, half_unused, key, last_four, library_check, logger,
+    mix_all, of_64_bits, packed, paper, print_fullest, random_rows, treenum_check, unfinished, Maker, Table,
+    BUCKETS, LIMIT, MULTIPLIER,
 };
 
 // The same check in plain Rust
@@ -95,7 +96,7 @@ fn check<S: BuildHasher + Default>(states: u64, entries: &[u16], accepting: &[u1
                 long = long.max(args.iter().map(|&a| longest[usize::from(a)]).fold(2, u64::saturating_add));
             }
         }
-        beyond |= count > LIMIT || long > 4096;
+        beyond |= count == LIMIT || long > 4096;
         counts[q] = count;
         longest[q] = long;
     }
@@ -103,6 +104,7 @@ fn check<S: BuildHasher + Default>(states: u64, entries: &[u16], accepting: &[u1
     // Only used states are held to the limits: those that are listed, and the arguments of a used state's rows that count
     // above 0. (A listed state that counts 0 is marked too: it is within the limits, and no row of it marks another.)
     if beyond {
+        let above = above_limit(states, &counts, |q| by_target[starts[q]..starts[q + 1]].iter().copied());
         let mut used = listed;
         for q in (0..states).rev() {
             if used[q] {
@@ -114,7 +116,7 @@ fn check<S: BuildHasher + Default>(states: u64, entries: &[u16], accepting: &[u1
             }
         }
         for q in (0..states).filter(|&q| used[q]) {
-            if counts[q] > LIMIT {
+            if above[q] {
                 return refuse(9, q);
             }
             if longest[q] > 4096 {
@@ -123,11 +125,8 @@ fn check<S: BuildHasher + Default>(states: u64, entries: &[u16], accepting: &[u1
         }
     }
 
-    let total = accepting.iter().map(|&q| counts[usize::from(q)]).sum();
-    if total > LIMIT {
-        return refuse(11, 0);
-    }
-    Ok(total)
+    let total = accepting.iter().try_fold(0u64, |total, &q| total.checked_add(counts[usize::from(q)]));
+    total.map_or(refuse(11, 0), Ok)
 }
 
 #[inline(never)]
@@ -175,33 +174,6 @@ fn no_leaves(draw: &mut Draw) -> Table {
             (0..16).map(|_| draw.between(0, target - 1)).collect(),
         ) {}
     }
-    maker.table(draw)
-}
-
-/// 1,024 rows over 256 states. States 0 to 31 have 6 leaves each, and 32 to 39 a row over 4 of them, which counts 1,296. The
-/// other 824 rows have 16 arguments, up to 2 of them the latter: they count 6 to the 16th, 19th or 22nd, which is between
-/// 2 to the 41st and 2 to the 57th. Their targets are unused.
-fn of_64_bits(draw: &mut Draw) -> Table {
-    let mut maker = Maker::new(256);
-    for i in 0..192 {
-        assert!(maker.add(i + 1, i / 6, vec![]));
-    }
-    for target in 32..40 {
-        while !maker.add(draw.between(1, 255), target, (0..4).map(|_| draw.between(0, 31)).collect()) {}
-    }
-    for i in 0..824 {
-        let target = 40 + i * 216 / 824;
-        loop {
-            let more = draw.below(3);
-            let mut args: Vec<u16> =
-                (0..16).map(|j| if j < more { draw.between(32, 39) } else { draw.between(0, 31) }).collect();
-            draw.shuffle(&mut args);
-            if maker.add_unused(draw.between(1, 255), target as u16, args) {
-                break;
-            }
-        }
-    }
-    assert!((40..256).all(|q| maker.count(q) > 1 << 32 && maker.count(q) < u64::MAX));
     maker.table(draw)
 }
 
@@ -397,7 +369,9 @@ fn main() {
         ("180 rows x 0 to 4", Goal::None, tables(8, middle)),
         ("1,024 rows x 16, half unused", goal_large, tables(8, half_unused)),
         ("40 rows and one unfinished state", goal_small, tables(64, unfinished)),
-        ("1,024 rows x 16, counts of 64 bits", goal_large, tables(8, of_64_bits)),
+        ("1,024 rows x 16, counts of 64 bits", goal_large, tables(8, |draw| of_64_bits(draw, false))),
+        ("22 rows, reports of eight probes", goal_small, tables(8, eight_probes)),
+        ("1,024 rows x 16, totals of 64 bits", goal_large, tables(8, |draw| of_64_bits(draw, true))),
     ];
 
     for (name, _, tables) in &cases {

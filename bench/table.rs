@@ -3,7 +3,11 @@
 use crate::common::{answer, Answer, Draw};
 use std::collections::HashSet;
 
-pub const LIMIT: u64 = u32::MAX as u64;
+/// The limit on counts and totals. It is the highest u64: what saturates there is at the limit or above it.
+pub const LIMIT: u64 = u64::MAX;
+
+/// Most drawn tables are kept within this: they are those that were timed when it was the limit.
+const LIMIT_BEFORE: u64 = u32::MAX as u64;
 
 #[derive(Clone, Default)]
 pub struct Table {
@@ -51,6 +55,32 @@ pub fn library_check(table: &Table) -> Answer {
     answer(number, value)
 }
 
+// Counts
+
+/// The states that count more than the limit, of those whose saturating sums have reached it: their rows once more, with
+/// sums and products that end there. `rows` are the arguments of a state's rows.
+pub fn above_limit<'a, R: Iterator<Item = &'a [u16]>>(
+    states: usize,
+    counts: &[u64],
+    rows: impl Fn(usize) -> R,
+) -> [bool; 256] {
+    let mut above = [false; 256];
+    for q in (0..states).filter(|&q| counts[q] == LIMIT) {
+        let count = rows(q)
+            // A row that counts 0 adds nothing, whatever else it is over.
+            .filter(|args| args.iter().all(|&a| counts[usize::from(a)] > 0))
+            .map(|args| {
+                args.iter().map(|&a| usize::from(a)).try_fold(1u64, |product, a| match above[a] {
+                    true => None,
+                    false => product.checked_mul(counts[a]),
+                })
+            })
+            .try_fold(0u64, |sum, product| sum.checked_add(product?));
+        above[q] = count.is_none();
+    }
+    above
+}
+
 // Tables
 
 /// The list in which these rows are lent: symbols, targets and arguments.
@@ -63,9 +93,10 @@ pub fn packed(rows: &[(u16, u16, Vec<u16>)]) -> Vec<u16> {
 }
 
 /// A table under construction. It takes a row only if the table then passes the check: its target counts no more than
-/// the limit and has no longer trees, or is in no accepted tree.
+/// is allowed here and has no longer trees, or is in no accepted tree.
 pub struct Maker {
     states: usize,
+    most: u64,
     pub rows: Vec<(u16, u16, Vec<u16>)>,
     taken: HashSet<(u16, Vec<u16>)>,
     counts: Vec<u64>,
@@ -74,9 +105,20 @@ pub struct Maker {
 }
 
 impl Maker {
+    /// For a table that was within the limit before.
     pub fn new(states: usize) -> Maker {
+        Maker::within(states, LIMIT_BEFORE)
+    }
+
+    /// For a table whose counts and total need 64 bits. What reaches the limit may be above it, and is not taken.
+    pub fn wide(states: usize) -> Maker {
+        Maker::within(states, LIMIT - 1)
+    }
+
+    fn within(states: usize, most: u64) -> Maker {
         Maker {
             states,
+            most,
             rows: vec![],
             taken: HashSet::new(),
             counts: vec![0; states],
@@ -93,7 +135,7 @@ impl Maker {
     /// Adds a row, unless it is there or would pass a limit. Targets come in ascending order.
     pub fn add(&mut self, symbol: u16, target: u16, args: Vec<u16>) -> bool {
         let (count, long) = self.counted(target, &args);
-        if self.count(target).saturating_add(count) > LIMIT || (count > 0 && long > 4096) {
+        if self.count(target).saturating_add(count) > self.most || (count > 0 && long > 4096) {
             return false;
         }
         assert!(args.iter().chain([&target]).all(|&q| !self.unused[usize::from(q)]));
@@ -139,11 +181,11 @@ impl Maker {
         draw.shuffle(&mut self.rows);
         let mut accepting: Vec<u16> = (0..self.states as u16).filter(|&q| !self.unused[usize::from(q)]).collect();
         draw.shuffle(&mut accepting);
-        let mut total = 0;
+        let mut total = 0u64;
         accepting.retain(|&q| {
-            let count = self.counts[usize::from(q)];
-            let keep = draw.below(2) == 0 && total + count <= LIMIT;
-            total += if keep { count } else { 0 };
+            let sum = total.saturating_add(self.counts[usize::from(q)]);
+            let keep = draw.below(2) == 0 && sum <= self.most;
+            total = if keep { sum } else { total };
             keep
         });
         Table { states: self.states as u64, rows: packed(&self.rows), accepting }
@@ -209,6 +251,51 @@ pub fn unfinished(draw: &mut Draw) -> Table {
             return maker.table(draw);
         }
     }
+}
+
+/// The reports of a logger with eight probes, 22 rows and 5 states in any order of rows: a reading is a sign and two
+/// digits, or that the probe is shut; a report is one of six sites and the readings of eight probes, or of the first four.
+/// The total is 6 times the sum of 201 to the 8th and to the 4th, between 2 to the 63rd and 2 to the 64th.
+pub fn eight_probes(draw: &mut Draw) -> Table {
+    let [digit, sign, site, reading, report] = [0, 1, 2, 3, 4];
+    let mut maker = Maker::wide(5);
+    for (state, leaves) in [(digit, 1..11), (sign, 11..13), (site, 13..19), (reading, 19..20)] {
+        leaves.for_each(|symbol| assert!(maker.add(symbol, state, vec![])));
+    }
+    assert!(maker.add(20, reading, vec![sign, digit, digit]));
+    for (symbol, probes) in [(21, 8), (22, 4)] {
+        assert!(maker.add(symbol, report, [vec![site], vec![reading; probes]].concat()));
+    }
+    assert_eq!(maker.count(report), 6 * (201u64.pow(8) + 201u64.pow(4)));
+    Table { accepting: vec![report], ..maker.table(draw) }
+}
+
+/// 1,024 rows over 256 states. States 0 to 31 have 6 leaves each, and 32 to 39 a row over 4 of them, which counts 1,296. The
+/// other 824 rows have 16 arguments, up to 2 of them the latter: they count 6 to the 16th, 19th or 22nd, which is between
+/// 2 to the 41st and 2 to the 57th. Their targets are unused, or used.
+pub fn of_64_bits(draw: &mut Draw, used: bool) -> Table {
+    let mut maker = Maker::wide(256);
+    for i in 0..192 {
+        assert!(maker.add(i + 1, i / 6, vec![]));
+    }
+    for target in 32..40 {
+        while !maker.add(draw.between(1, 255), target, (0..4).map(|_| draw.between(0, 31)).collect()) {}
+    }
+    for i in 0..824 {
+        let target = 40 + i * 216 / 824;
+        loop {
+            let more = draw.below(3);
+            let mut args: Vec<u16> =
+                (0..16).map(|j| if j < more { draw.between(32, 39) } else { draw.between(0, 31) }).collect();
+            draw.shuffle(&mut args);
+            let add = if used { Maker::add } else { Maker::add_unused };
+            if add(&mut maker, draw.between(1, 255), target as u16, args) {
+                break;
+            }
+        }
+    }
+    assert!((40..256).all(|q| maker.count(q) > 1 << 32 && maker.count(q) < u64::MAX));
+    maker.table(draw)
 }
 
 /// A logger's table under construction, and the number of its states; so many more follow that are empty.
@@ -344,18 +431,18 @@ pub fn faulty(draw: &mut Draw) -> Table {
             Table { states: u64::from(states), rows, accepting: vec![listed] }
         }
         2 => {
-            // Counts 2, 4, 16, 256, 65,536, 2 to the 31st twice.
-            let mut maker = Maker::new(7);
+            // Counts 2, 4, 16, 256, 65,536, 2 to the 32nd, 2 to the 63rd twice.
+            let mut maker = Maker::wide(8);
             maker.leaves(1);
             maker.add(2, 0, vec![]);
-            for q in 1..5 {
+            for q in 1..6 {
                 maker.add(1, q, vec![q - 1, q - 1]);
             }
-            maker.add(1, 5, vec![0, 1, 2, 3, 4]);
-            maker.add(2, 6, vec![0, 1, 2, 3, 4]);
+            maker.add(1, 6, vec![0, 1, 2, 3, 4, 5]);
+            maker.add(2, 7, vec![0, 1, 2, 3, 4, 5]);
             let mut table = maker.table(draw);
             if draw.below(2) == 0 {
-                table.accepting = vec![6, 5];
+                table.accepting = vec![7, 6];
             }
             table
         }
@@ -376,13 +463,30 @@ pub fn faulty(draw: &mut Draw) -> Table {
             Table { states: 4, rows, accepting: vec![3] }
         }
         5 => {
-            // Counts 65,535 in state 9, 65,537 in state 10, and their product, 2 to the 32nd less 1, in state 11.
-            let rows = vec![
-                1, 0, 0, 2, 0, 0, 1, 1, 2, 0, 0, 1, 2, 2, 1, 1, 1, 3, 2, 2, 2, 1, 4, 2, 3, 3, 3, 5, 0, 4, 5, 0, 5,
-                5, 0, 3, 6, 1, 1, 6, 6, 0, 3, 7, 1, 2, 7, 7, 0, 3, 8, 1, 3, 8, 8, 0, 1, 9, 4, 5, 6, 7, 8, 3, 10, 1,
-                4, 9, 10, 0, 1, 11, 2, 9, 10,
+            // The first edges of document 01: state 5 has 4,294,967,296 trees, state 12 one less, state 13 one more. State 14
+            // is over the last two, with a leaf beside it or without, or twice over the first, or it is empty and state
+            // 15 is over the first twice and over it.
+            let mut rows = vec![
+                1, 0, 0, 2, 0, 0, 1, 1, 2, 0, 0, 1, 2, 2, 1, 1, 1, 3, 2, 2, 2, 1, 4, 2, 3, 3, 1, 5, 2, 4, 4, 3, 6,
+                0, 4, 6, 0, 5, 6, 0, 3, 7, 1, 1, 6, 7, 0, 3, 8, 1, 2, 7, 8, 0, 3, 9, 1, 3, 8, 9, 0, 3, 10, 1, 4,
+                9, 10, 0, 1, 11, 4, 6, 7, 8, 9, 1, 12, 2, 10, 11, 3, 13, 1, 5, 10, 13, 0,
             ];
-            Table { states: 12, rows, accepting: [vec![11], vec![0; draw.below(2)]].concat() }
+            rows.extend(match draw.below(6) {
+                0 => vec![1, 14, 2, 12, 13],
+                1 => vec![1, 14, 2, 12, 13, 11, 14, 0],
+                2 => vec![1, 14, 2, 5, 5],
+                3 => vec![1, 15, 3, 5, 5, 14],
+                4 => vec![1, 15, 3, 5, 14, 5],
+                _ => vec![1, 15, 3, 14, 5, 5],
+            });
+            let accepting = match draw.below(5) {
+                0 => vec![14],
+                1 => vec![15, 14],
+                2 => vec![14, 0],
+                3 => vec![5],
+                _ => vec![13, 12],
+            };
+            Table { states: 16, rows, accepting }
         }
         6 => unfinished(draw),
         _ => logger(draw),

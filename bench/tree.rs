@@ -12,8 +12,8 @@ use std::collections::HashMap;
 use std::hash::{BuildHasher, BuildHasherDefault};
 use std::rc::Rc;
 use table::{
-    bucket_before, faulty, half_unused, key, last_four, library_check, logger, mix_all, packed, paper, print_fullest,
-    random_rows, unfinished, Maker, Table, LIMIT, MULTIPLIER,
+    above_limit, bucket_before, eight_probes, faulty, half_unused, key, last_four, library_check, logger, mix_all,
+    of_64_bits, packed, paper, print_fullest, random_rows, unfinished, Maker, Table, LIMIT, MULTIPLIER,
 };
 
 /// What both operations are timed on: a table, a number below its total, and the tree of the number.
@@ -114,7 +114,7 @@ struct Checked<'a, S> {
     starts: Vec<usize>,
     counts: Vec<u64>,
     longest: Vec<u64>,
-    /// The states in which values are formed: the used ones, or all where no state is above a limit.
+    /// The states in which values are formed: the used ones, or all where every state counts below the limit.
     valued: [bool; 256],
 }
 
@@ -198,7 +198,7 @@ fn checked<S: BuildHasher + Default>(table: &Table) -> Result<Checked<'_, S>, Re
                 long = long.max(row.args.iter().map(|&a| longest[usize::from(a)]).fold(2, u64::saturating_add));
             }
         }
-        beyond |= count > LIMIT || long > 4096;
+        beyond |= count == LIMIT || long > 4096;
         counts[q] = count;
         longest[q] = long;
     }
@@ -206,6 +206,8 @@ fn checked<S: BuildHasher + Default>(table: &Table) -> Result<Checked<'_, S>, Re
     // Only used states are held to the limits, as in `check` of bench/check.rs.
     let mut valued = [true; 256];
     if beyond {
+        let places = |q: usize| by_target[starts[q]..starts[q + 1]].iter();
+        let above = above_limit(states, &counts, |q| places(q).map(|&place| rows[place].args));
         valued = listed;
         for q in (0..states).rev() {
             if valued[q] {
@@ -218,7 +220,7 @@ fn checked<S: BuildHasher + Default>(table: &Table) -> Result<Checked<'_, S>, Re
             }
         }
         for q in (0..states).filter(|&q| valued[q]) {
-            if counts[q] > LIMIT {
+            if above[q] {
                 return refuse(9, q);
             }
             if longest[q] > 4096 {
@@ -227,10 +229,10 @@ fn checked<S: BuildHasher + Default>(table: &Table) -> Result<Checked<'_, S>, Re
         }
     }
 
-    let total = accepting.iter().map(|&q| counts[usize::from(q)]).sum();
-    if total > LIMIT {
+    let total = accepting.iter().try_fold(0u64, |total, &q| total.checked_add(counts[usize::from(q)]));
+    let Some(total) = total else {
         return refuse(11, 0);
-    }
+    };
     Ok(Checked { total, rows, row: seen, by_target, starts, counts, longest, valued })
 }
 
@@ -279,12 +281,12 @@ fn number<S: BuildHasher + Default>(table: &Table, tree: &[u16]) -> Answer {
     if let Some(place) = stuck {
         return refuse(14, place);
     }
-    let mut number = values[0];
+    let mut earlier = 0;
     for &q in &table.accepting {
         if q == states[0] {
-            return Ok(number);
+            return Ok(earlier + values[0]);
         }
-        number += checked.counts[usize::from(q)];
+        earlier += checked.counts[usize::from(q)];
     }
     refuse(14, tree.len() - 1)
 }
@@ -487,8 +489,8 @@ fn faulty_pair(draw: &mut Draw) -> Pair {
     let table = Rc::new(faulty(draw));
     let total = plain_check(&table).unwrap_or(0);
     let number = match draw.below(8) {
-        0 => (total + draw.below(3) as u64).saturating_sub(1),
-        1 => [u64::MAX, LIMIT, LIMIT + 1][draw.below(3)],
+        0 => total.saturating_add(draw.below(3) as u64).saturating_sub(1),
+        1 => [LIMIT, LIMIT - 1, 1 << 32, 1 << 63][draw.below(4)],
         _ => draw.below(total.max(1) as usize) as u64,
     };
     let (few, many) = (1 + draw.below(8), 2046 + draw.below(4));
@@ -604,6 +606,8 @@ fn main() {
         ("1,021 of 1,024 rows in one bucket", None, pairs(&mut draw, 2, 1, one_bucket)),
         ("40 rows and one unfinished state", goal, pairs(&mut draw, 64, 4, unfinished)),
         ("1,024 rows x 16, half unused", None, pairs(&mut draw, 8, 4, half_unused)),
+        ("22 rows, reports of eight probes", goal, pairs(&mut draw, 8, 8, eight_probes)),
+        ("1,024 rows x 16, totals of 64 bits", None, pairs(&mut draw, 8, 4, |draw| of_64_bits(draw, true))),
     ];
 
     for (name, _, pairs) in &cases {
