@@ -174,9 +174,9 @@ static void powers(unsigned leaves) {
     number("a leaf that no state has, after 15 trees", tree, n, TREENUM_NOT_ACCEPTED, n - 2);
 }
 
-/* State q, up to 69, counts 2 to the power q + 1, by two rows over the one below it. State 70 is empty, state 71 has the rows that are asked
-   about, and state 72 those of 71 with state 70 as one more argument, and then a row over state 30. */
-static void doubled(const uint16_t *args, size_t count, uint64_t place) {
+/* State q, up to 69, counts 2 to the power q + 1, by two rows over the one below it. State 70 is empty, state 71 has the row that is asked
+   about, and state 72 that of 71 with state 70 as one more argument, last and first, and then a row over another state. */
+static void make_doubled(const uint16_t *args, size_t count, uint16_t other) {
     uint16_t more[ARGUMENTS];
     memcpy(more, args, count * sizeof args[0]);
     more[count] = 70;
@@ -191,27 +191,47 @@ static void doubled(const uint16_t *args, size_t count, uint64_t place) {
     memmove(more + 1, more, count * sizeof more[0]);
     more[0] = 70;
     row(4, 72, more, count + 1);
-    row(5, 72, LIST(30));
-    check("a product, not used", LIST(30), TREENUM_RESULT, 2147483648);
-    check("a product, used", LIST(30, 71), TREENUM_COUNT_ABOVE_LIMIT, place);
-    check("a product that meets a 0", LIST(72, 70), TREENUM_RESULT, 2147483648);
-    uint16_t tree[2 + 2 * 31] = {5};
-    for (int i = 0; i < 31; i++) tree[1 + i] = 1;
-    both("the first tree after products that meet a 0", 0, tree, 64);
-    for (int i = 0; i < 31; i++) tree[1 + i] = (uint16_t)(1 + i % 2);
-    both("a tree after products that meet a 0", 715827882, tree, 64);
-    for (int i = 0; i < 31; i++) tree[1 + i] = 2;
-    both("the last tree after products that meet a 0", 2147483647, tree, 64);
-    none("a number above them", 2147483648);
-    /* through states 31 to 69, which count 2 to the 32nd to 2 to the 70th */
+    row(5, 72, &other, 1);
+}
+
+/* A product of 2 to the 64th or more, beside a state that counts 2 to the power of bits: it is refused at the place if it is used. */
+static void doubled(unsigned bits, const uint16_t *args, size_t count, uint64_t place) {
+    uint16_t other = (uint16_t)(bits - 1);
+    const uint64_t total = (uint64_t)1 << bits;
+    make_doubled(args, count, other);
+    check("a product, not used", LIST(other), TREENUM_RESULT, total);
+    check("a product, used", LIST(other, 71), TREENUM_COUNT_ABOVE_LIMIT, place);
+    check("a product, used, and others that meet a 0", LIST(72, 71, other), TREENUM_COUNT_ABOVE_LIMIT, place);
+    check("a product that meets a 0", LIST(72, 70), TREENUM_RESULT, total);
+    uint16_t tree[2 + 2 * 63] = {5};
+    uint64_t alternating = 0;
+    for (unsigned i = 0; i < bits; i++) alternating = 2 * alternating + i % 2;
+    for (unsigned i = 0; i < bits; i++) tree[1 + i] = 1;
+    both("the first tree after products that meet a 0", 0, tree, 2 * bits + 2);
+    for (unsigned i = 0; i < bits; i++) tree[1 + i] = (uint16_t)(1 + i % 2);
+    both("a tree after products that meet a 0", alternating, tree, 2 * bits + 2);
+    for (unsigned i = 0; i < bits; i++) tree[1 + i] = 2;
+    both("the last tree after products that meet a 0", total - 1, tree, 2 * bits + 2);
+    none("a number above them", total);
+    none("the highest number", UINT64_MAX);
+    /* through states that are used and not listed, up to the one with as many trees, and through states that are not used, up to 69, which counts
+       2 to the 70th */
     uint16_t deep[2 * 71];
     for (int i = 0; i < 71; i++) deep[i] = 2, deep[71 + i] = 0;
-    for (size_t n = 32; n <= 70; n++) number("a tree of an unused state", deep + 71 - n, 2 * n, TREENUM_NOT_ACCEPTED, 2 * n - 1);
+    for (size_t n = 30; n <= 70; n++) number("a tree of a state that is not listed", deep + 71 - n, 2 * n, TREENUM_NOT_ACCEPTED, 2 * n - 1);
     number("a tree over an unused state", deep, 2 * 71, TREENUM_NOT_ACCEPTED, 2 * 71 - 1);
 }
 
-/* 1,024 rows, half of them unused. States 0 to 31 have a leaf each, 32 to 127 five rows of 16 leaves each, and 128 to 255 four rows of 16 arguments
-   each: for 128 states that count 5, for the others the state below and any lower ones. */
+/* A product of 2 to the power of bits, which is at most 63. */
+static void passing(unsigned bits, const uint16_t *args, size_t count) {
+    make_doubled(args, count, 30);
+    check("a product within the limit", LIST(71), TREENUM_RESULT, (uint64_t)1 << bits);
+    check("a product within the limit, not used", LIST(0), TREENUM_RESULT, 2);
+    check("a product within the limit that meets a 0", LIST(72, 71), TREENUM_RESULT, ((uint64_t)1 << bits) + 2147483648);
+}
+
+/* 1,024 rows, half of them unused. States 0 to 31 have a leaf each, 32 to 61 sixteen rows of 16 leaves each, and 62 to 255 the other 512 rows, of 16
+   arguments each: for 62 states that count 16, for the others the state below and any lower ones. */
 static void half(void) {
     static uint16_t trees[480][2 + 2 * ARGUMENTS];
     uint32_t drawn = 1;
@@ -219,36 +239,36 @@ static void half(void) {
     for (unsigned q = 0; q < 32; q++) leaf(q + 1, q);
     for (unsigned i = 0; i < 480; i++) {
         uint16_t args[ARGUMENTS] = {(uint16_t)(i % 32), (uint16_t)(i / 32)};
-        uint16_t *tree = trees[i % 96 * 5 + i / 96];
+        uint16_t *tree = trees[i % 30 * 16 + i / 30];
         for (int j = 2; j < ARGUMENTS; j++) args[j] = (drawn = drawn * 1664525 + 1013904223) >> 27;
-        row(100, 32 + i % 96, args, ARGUMENTS);
+        row(100, 32 + i % 30, args, ARGUMENTS);
         *tree++ = 100;
         for (int j = 0; j < ARGUMENTS; j++, tree += 2) *tree = (uint16_t)(args[j] + 1);
     }
     for (unsigned i = 0; i < 512; i++) {
-        unsigned target = 128 + i % 128;
-        uint16_t args[ARGUMENTS] = {(uint16_t)(target == 128 ? 32 : target - 1), (uint16_t)(32 + i / 128)};
+        unsigned target = 62 + i % 194;
+        uint16_t args[ARGUMENTS] = {(uint16_t)(target == 62 ? 32 : target - 1), (uint16_t)(32 + i / 194)};
         for (int j = 2; j < ARGUMENTS; j++) {
             drawn = drawn * 1664525 + 1013904223;
-            args[j] = (uint16_t)(target == 128 ? 32 + (drawn >> 16) % 96 : (drawn >> 16) % target);
+            args[j] = (uint16_t)(target == 62 ? 32 + (drawn >> 16) % 30 : (drawn >> 16) % target);
         }
         row(101, target, args, ARGUMENTS);
     }
-    uint16_t lower[96], all[256];
-    for (int i = 0; i < 96; i++) lower[i] = (uint16_t)(32 + i);
+    uint16_t lower[30], all[256];
+    for (int i = 0; i < 30; i++) lower[i] = (uint16_t)(32 + i);
     for (int i = 0; i < 256; i++) all[i] = (uint16_t)i;
-    check("half unused, all listed", all, 256, TREENUM_COUNT_ABOVE_LIMIT, 128);
-    check("half unused, the last listed", LIST(255), TREENUM_COUNT_ABOVE_LIMIT, 128);
+    check("half unused, all listed", all, 256, TREENUM_COUNT_ABOVE_LIMIT, 62);
+    check("half unused, the last listed", LIST(255), TREENUM_COUNT_ABOVE_LIMIT, 62);
     check("half unused, the leaves listed", all, 32, TREENUM_RESULT, 32);
-    check("half unused", lower, 96, TREENUM_RESULT, 480);
+    check("half unused", lower, 30, TREENUM_RESULT, 480);
     for (uint64_t k = 0; k < 480; k++) both("a tree of the half that is used", k, trees[k], 2 + 2 * ARGUMENTS);
     none("a number above them", 480);
-    /* the first row of state 128, with the first tree of each argument */
+    /* the first row of state 62, with the first tree of each argument */
     static uint16_t tree[2 + ARGUMENTS * (2 + 2 * ARGUMENTS) + 2];
     const uint16_t *args = rows + 32 * 3 + 480 * (3 + ARGUMENTS) + 3;
     size_t n = 1;
     tree[n++] = 101;
-    for (int j = 0; j < ARGUMENTS; j++, n += 2 + 2 * ARGUMENTS) memcpy(tree + n, trees[(args[j] - 32) * 5], sizeof trees[0]);
+    for (int j = 0; j < ARGUMENTS; j++, n += 2 + 2 * ARGUMENTS) memcpy(tree + n, trees[(args[j] - 32) * 16], sizeof trees[0]);
     n++;
     number("a tree of the unused half", tree + 1, n - 1, TREENUM_NOT_ACCEPTED, n - 2);
     tree[0] = 101;
@@ -259,21 +279,30 @@ int main(void) {
     one_target();
     powers(1);
     powers(2);
-    /* 2 to the 63rd, the 64th and above, of arguments that pass, in which 71 is the first state above the limit; and of arguments above it */
-    doubled(LIST(30, 30), 71);
-    doubled(LIST(30, 30, 1), 71);
-    doubled(LIST(20, 20, 20), 71);
-    doubled(LIST(15, 15, 15, 15), 71);
-    doubled(LIST(30, 30, 30, 30, 30, 30, 30, 30, 30, 30, 30, 30, 30, 30, 30), 71);
-    doubled(LIST(31), 31);
-    doubled(LIST(31, 0), 31);
-    doubled(LIST(31, 31), 31);
-    doubled(LIST(30, 32), 31);
-    doubled(LIST(63), 31);
-    doubled(LIST(62, 0), 31);
-    doubled(LIST(69, 69), 31);
-    doubled(LIST(0, 31, 0, 31), 31);
-    doubled(LIST(69, 69, 69, 69, 69, 69, 69, 69, 69, 69, 69, 69, 69, 69, 69), 31);
+    /* 2 to the 64th and above, of arguments that pass, in which 71 is the first state above the limit; and of arguments above it */
+    for (unsigned bits = 31; bits <= 63; bits += 32) {
+        doubled(bits, LIST(31, 31), 71);
+        doubled(bits, LIST(30, 30, 1), 71);
+        doubled(bits, LIST(62, 0), 71);
+        doubled(bits, LIST(62, 1), 71);
+        doubled(bits, LIST(20, 20, 20, 0), 71);
+        doubled(bits, LIST(15, 15, 15, 15), 71);
+        doubled(bits, LIST(62, 62, 62, 62, 62, 62, 62, 62, 62, 62, 62, 62, 62, 62, 62), 71);
+        doubled(bits, LIST(63), 63);
+        doubled(bits, LIST(63, 0), 63);
+        doubled(bits, LIST(63, 63), 63);
+        doubled(bits, LIST(62, 64), 63);
+        doubled(bits, LIST(69, 69), 63);
+        doubled(bits, LIST(0, 63, 0, 63), 63);
+        doubled(bits, LIST(69, 69, 69, 69, 69, 69, 69, 69, 69, 69, 69, 69, 69, 69, 69), 63);
+    }
+    /* those that were above the limit before, and 2 to the 63rd */
+    passing(62, LIST(30, 30));
+    passing(32, LIST(31));
+    passing(33, LIST(31, 0));
+    passing(63, LIST(62));
+    passing(63, LIST(30, 31));
+    passing(63, LIST(20, 20, 20));
     half();
     if (failures) printf("%d failures\n", failures);
     return failures != 0;
