@@ -97,26 +97,26 @@ rows-hold = refl
 both : List ℕ
 both = lengths ++ row 2 3 [] ++ row 3 3 [] ++ row 3 4 (replicate 16 3)
 
--- the largest count that passes, in state 5: the product of 4,294,967,295 and 4,294,967,297; and one tree more
-most : List ℕ
-most = below-above ++ row 9 5 (3 ∷ 4 ∷ [])
+-- 65,536 and 32,768 trees in states 1 and 2, 2 ^ 63 in state 3; and as many once more
+half : List ℕ
+half = two ++ power 16 ++ row 4 2 (replicate 15 0) ++ row 5 3 (1 ∷ 1 ∷ 1 ∷ 2 ∷ [])
 
 big : List ℕ
-big = most ++ row 10 5 []
+big = half ++ row 6 3 (1 ∷ 1 ∷ 1 ∷ 2 ∷ [])
 
 limits : List Example
 limits =
     -- 9: a state's sum decides, and not one row
-    checks 6 big (5 ∷ []) (refused 9 5)
-    -- "Only used states are held to the limits": the same table where no accepted tree has a tree of state 5, and a state that counts 2 ^ 512
-    ∷ checks 6 big [] (result 0)
-    ∷ checks 6 big (1 ∷ []) (result 65535)
+    checks 4 big (3 ∷ []) (refused 9 3)
+    -- "Only used states are held to the limits": the same table where no accepted tree has a tree of state 3, and a state that counts 2 ^ 512
+    ∷ checks 4 big [] (result 0)
+    ∷ checks 4 big (1 ∷ []) (result 65536)
     ∷ checks 4 (even ++ row 6 3 (replicate 16 2)) (1 ∷ []) (result 65536)
-    -- used as an argument; state 6 is empty: the row that names state 5 beside it counts 0, and being listed is not enough
-    ∷ checks 7 (big ++ row 11 6 (5 ∷ [])) (6 ∷ []) (refused 9 5)
-    ∷ checks 8 (big ++ row 11 7 (5 ∷ 6 ∷ [])) (0 ∷ 7 ∷ 6 ∷ []) (result 2)
+    -- used as an argument; state 4 is empty: the row that names state 3 beside it counts 0, and being listed is not enough
+    ∷ checks 5 (big ++ row 7 4 (3 ∷ [])) (4 ∷ []) (refused 9 3)
+    ∷ checks 6 (big ++ row 7 5 (3 ∷ 4 ∷ [])) (0 ∷ 5 ∷ 4 ∷ []) (result 2)
     -- a row above an unused state makes none used
-    ∷ checks 8 (big ++ row 11 6 (5 ∷ []) ++ row 11 7 (6 ∷ [])) (2 ∷ []) (result 65537)
+    ∷ checks 6 (big ++ row 7 4 (3 ∷ []) ++ row 7 5 (4 ∷ [])) (2 ∷ []) (result 32768)
     -- before 10 within a state; the first faulty state decides
     ∷ checks 6 (both ++ row 5 5 (replicate 4 4) ++ row 5 5 (replicate 8 2)) (5 ∷ []) (refused 9 5)
     ∷ checks 7 (both ++ row 5 5 (replicate 8 2) ++ row 5 6 (replicate 4 4)) (6 ∷ 5 ∷ []) (refused 10 5)
@@ -127,23 +127,25 @@ limits =
     ∷ checks 6 (both ++ row 5 5 (replicate 8 2)) (2 ∷ []) (result 1)
     -- 10: a row that counts 0 has no longest tree
     ∷ checks 7 (both ++ row 5 6 (5 ∷ replicate 8 2)) (6 ∷ []) (result 0)
-    -- 11, of the sum, though no state is beyond the limit: 2 ^ 64 + 1, and 2 ^ 64; one less passes
-    ∷ checks 6 most (5 ∷ 0 ∷ []) (refused 11 0)
-    ∷ checks 7 (most ++ row 10 6 []) (6 ∷ 5 ∷ []) (refused 11 0)
-    ∷ checks 7 (below-above ++ row 9 6 (3 ∷ 3 ∷ []) ++ row 9 5 (3 ∷ []) ++ row 10 5 (3 ∷ [])) (5 ∷ 6 ∷ []) (result 18446744073709551615)
+    -- 11, of the sum, though no state is beyond the limit: 2 ^ 63 twice; once passes
+    ∷ checks 5 (half ++ row 6 4 (1 ∷ 1 ∷ 1 ∷ 2 ∷ [])) (4 ∷ 3 ∷ []) (refused 11 0)
+    ∷ checks 5 (half ++ row 6 4 (1 ∷ 1 ∷ 1 ∷ 2 ∷ [])) (4 ∷ []) (result 9223372036854775808)
     -- 7 comes before 9
     ∷ checks 4 (even ++ row 6 3 (2 ∷ 2 ∷ [])) (3 ∷ 4 ∷ []) (refused 7 1)
     ∷ []
 
 limits-hold : map given limits ≡ map due limits
-unfolding power two below-32 below-above even lengths both most big limits checkOutcome checkWithin firstFaulty refuseOn anyBelow rowStart howMany howManyRows firstRows rowsOf sameBy rowIs sum product weight stateCounts grow count total largest rowLongest stateLongest longest allBelow cut tooMany outOfRange notBelow repeated rowGround acceptingGround limitGround stateGround entryOf stateUsed growDown isUsed
+unfolding power two even lengths both half big limits checkOutcome checkWithin firstFaulty refuseOn anyBelow rowStart howMany howManyRows firstRows rowsOf sameBy rowIs sum product weight stateCounts grow count total largest rowLongest stateLongest longest allBelow cut tooMany outOfRange notBelow repeated rowGround acceptingGround limitGround stateGround entryOf stateUsed growDown isUsed
 limits-hold = refl
 
 -- a leaf in state 0; in state 1 a node with one leaf, and one with two; state 2 is reached by a node of those, and is not listed
 small : List ℕ
 small = leaf ++ row 2 1 (0 ∷ []) ++ row 2 1 (0 ∷ 0 ∷ []) ++ row 3 2 (1 ∷ 1 ∷ [])
 
--- the last tree of state 5 of `most`
+-- the largest count that passes, in state 5, and the last tree of that state
+most : List ℕ
+most = below-above ++ row 9 5 (3 ∷ 4 ∷ [])
+
 lastTree : List ℕ
 lastTree =
     9 ∷ 5 ∷ 3 ∷ 2 ∷ 0 ∷ 2 ∷ 0 ∷ 2 ∷ 0 ∷ 2 ∷ 0 ∷ 2 ∷ 0 ∷ 2 ∷ 0 ∷ 2 ∷ 0 ∷ 2 ∷ 0 ∷ 2 ∷ 0 ∷ 2 ∷ 0 ∷ 2 ∷ 0 ∷ 2 ∷ 0 ∷ 2 ∷ 0 ∷ 2 ∷ 0 ∷ 2 ∷ 0 ∷ 0 ∷ 4 ∷ 0 ∷ 0 ∷ 8 ∷ 0 ∷ 0 ∷ []
