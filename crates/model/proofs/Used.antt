@@ -278,7 +278,7 @@ module _ (T : Table) (good : Good T) (c : ℕ → ℕ) (counts : Counts T c) (u 
       let g = trees-with x xs j (le-of-suc-le-suc l) r (below-rest (T .states) a xs b) (f .1) in
       record { forest = _; reach = graft (v .reaches) (g .reach); has = later (g .has) }
 
-  -- a used state's row has lower arguments
+  -- a row's arguments are below its target
   lower : {i s p : ℕ} {xs : List ℕ} → IsRow (T .rows) i s p xs → AllBelow p xs
   lower {i} w = rw (row-target w, row-args w) at (good .ordered i (w .inside))
 
