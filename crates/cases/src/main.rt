@@ -16,6 +16,7 @@
 // more than 64, `;`, their count, `entries` and their digest. Any other line prints `bad line`, and so does one
 // with a number that does not fit (names and texts: 8 bits; rows, accepting entries and trees: 16; all
 // others: 64), a list of more than 66,000, or more than 80,000 numbers, or 80,002 with the short forms written out.
+#![tactic(auto)]
 ghost use Rattle.std.specs.Prelude.{◌≡◌};
 ghost use Rattle.cases.specs.Decimal.{grown};
 ghost use Rattle.cases.specs.Lists.{Sound};

@@ -16,10 +16,10 @@ first_with p (suc n) = or_else (first_with p n) (p n) n
 
 -- all of n things are without a ground
 abbrev pub AllFine : ℕ → (ℕ → ℕ) → Type 0
-AllFine n ground = (i : ℕ) → i < n → ground i ≡ 0
+AllFine n ground_of = (i : ℕ) → i < n → ground_of i ≡ 0
 
 -- thing i is the first of n for which a ground holds, the one of this number
-pub record FirstAt (n : ℕ) (ground : ℕ → ℕ) (i number : ℕ) : Type 0 where
+pub record FirstAt (n : ℕ) (ground_of : ℕ → ℕ) (i number : ℕ) : Type 0 where
   pub inside : i < n
-  pub before : AllFine i ground
-  pub here : ground i ≡ number
+  pub before : AllFine i ground_of
+  pub here : ground_of i ≡ number

@@ -70,10 +70,10 @@ lists_then states rows accepting otherwise =
     (first_faulty (how_many_entries accepting) (accepting_ground states accepting) otherwise)
 
 -- the rest of the check, 9 to 11, with a limit for the total and a ground for the states
-abbrev pub states_outcome : (limit : ℕ) → Table → (ground : ℕ → ℕ) → Outcome
-states_outcome limit T ground =
+abbrev pub states_outcome : (limit : ℕ) → Table → (ground_of : ℕ → ℕ) → Outcome
+states_outcome limit T ground_of =
     -- "Then states are taken in turn from 0, the first faulty state decides, and its number is the place"
-    first_faulty T.states ground
+    first_faulty T.states ground_of
     -- "Last, a total above [the limit] is 11."
     (if ltb limit (total T) then refused 11 0 else result (total T))
 

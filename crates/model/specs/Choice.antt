@@ -8,7 +8,7 @@ if true then a else b = a
 if false then a else b = b
 
 -- a ground is given by its refusal's number; 0 says that none holds
-unfoldable pub refuse_on : (ground place : ℕ) → Outcome → Outcome
+unfoldable pub refuse_on : (number place : ℕ) → Outcome → Outcome
 refuse_on zero place otherwise = otherwise
 refuse_on (suc k) place otherwise = refused (suc k) place
 
@@ -16,8 +16,8 @@ refuse_on (suc k) place otherwise = refused (suc k) place
 -- faulty state decides, and its number is the place": of n things, numbered from 0, the first for which a ground holds; where there is
 -- none, what follows
 unfoldable pub first_faulty : ℕ → (ℕ → ℕ) → Outcome → Outcome
-first_faulty zero ground otherwise = otherwise
-first_faulty (suc n) ground otherwise = first_faulty n ground (refuse_on (ground n) n otherwise)
+first_faulty zero ground_of otherwise = otherwise
+first_faulty (suc n) ground_of otherwise = first_faulty n ground_of (refuse_on (ground_of n) n otherwise)
 
 -- some number below n has the property
 unfoldable pub any_below : ℕ → (ℕ → Bool) → Bool

@@ -1,4 +1,5 @@
 // The operations on a table: checking it, numbering a tree, writing the tree of a number. What they set up stands here once for each size of table.
+#![tactic(auto)]
 ghost use Rattle.std.specs.Prelude.{◌≡◌, ◌≤◌, length};
 ghost use Rattle.model.specs.Answers.{outcome};
 ghost use Rattle.model.specs.Check.{check_outcome};

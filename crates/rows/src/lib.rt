@@ -1,4 +1,6 @@
 // Rows as words: one row by the grounds 2 to 5, and one number a row for all that comes after.
+#![tactic(auto)]
+
 ghost use Rattle.std.specs.Prelude.{◌≡◌, ◌+◌, ◌<◌, max, length};
 ghost use Rattle.model.specs.Table.{args_at, Whole};
 ghost use Rattle.model.specs.Check.{cut, too_many};

@@ -4,6 +4,7 @@
 // No contract says what the C library read or wrote. So this is to be read here: that `read_part` makes one read, of standard input, and
 // `write_part` hands its part once to a write of all of it, to standard output (`io::write_all`); which answers are a failure; and that what is
 // said goes to standard error. And of a program: that it keeps one log, and changes it only by lending it to these two.
+#![tactic(auto)]
 ghost use Rattle.std.specs.Prelude.{◌≡◌, map, ℕ, ◌+◌, ◌<◌, ◌≤◌, length};
 ghost use Rattle.streams.specs.Log.{Entry, entry_number, with_number, digest_after};
 ghost use Rattle.streams.specs.Parts.{Took, Wrote};

@@ -1,4 +1,5 @@
 // Checking a table.
+#![tactic(auto)]
 ghost use Rattle.std.specs.Prelude.{◌≡◌, ◌≤◌, map, length};
 ghost use Rattle.model.specs.Answers.{outcome};
 ghost use Rattle.model.specs.Count.{sum};

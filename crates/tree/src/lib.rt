@@ -1,4 +1,5 @@
 // A tree's entries, read one by one: refusals 12 and 13.
+#![tactic(auto)]
 ghost use Rattle.std.specs.Prelude.{◌≡◌, ◌<◌, ◌≤◌};
 ghost use Rattle.tree.specs.Reading.{fresh, not_aTree, step_of, end_of, Decides};
 

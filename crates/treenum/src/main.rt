@@ -3,6 +3,7 @@
 //
 // Answers are gathered, and written when the list may have no room for one more, and before each read. All reading and writing is by the crate
 // `streams`, with one log, which `main` makes: no other crate that this one stands on reads or writes (tests/one_log).
+#![tactic(auto)]
 ghost use Rattle.std.specs.Prelude.{List, ℕ, ◌<◌, ◌≤◌, length};
 ghost use Rattle.line.specs.Held.{longest_line, Holds, Holding, Begins, part};
 ghost use Rattle.streams.specs.Parts.{Wrote};

@@ -46,9 +46,9 @@ pub record FaultReady (states : ℕ) (ms used : List ℕ) (from : ℕ) : Type 0 
   pub before : FaultFrom states ms from
 
 -- the first faulty state of n, or there is none
-pub record FaultFound (n : ℕ) (ground : ℕ → ℕ) (r : StateFault) : Type 0 where
-  pub fault : (q : ℕ) (k : Kind) → r ≡ At q k → FirstAt n ground q (kind_number k)
-  pub fine : r ≡ Nothing → AllFine n ground
+pub record FaultFound (n : ℕ) (ground_of : ℕ → ℕ) (r : StateFault) : Type 0 where
+  pub fault : (q : ℕ) (k : Kind) → r ≡ At q k → FirstAt n ground_of q (kind_number k)
+  pub fine : r ≡ Nothing → AllFine n ground_of
 
 -- of every table whose marks and used states these are: the first used state that is beyond a limit, or there is none
 pub record FirstUsed (states : ℕ) (ms used : List ℕ) (r : StateFault) : Type 0 where
