@@ -1,5 +1,6 @@
 // Finding: the first number with a property, and numbers chained by bucket.
 #![tactic(auto)]
+
 ghost use Rattle.std.specs.Prelude.{◌≡◌};
 
 // The first number with a property, or nothing.

@@ -52,7 +52,7 @@ fn same(a: &[u16], b: &[u16]) -> bool
 }
 
 // Whether the row of a word has the symbol and the count of a key, and these arguments.
-fn row_is_lem(pool: &[u16], w: u64, key: u64, args: &[u16]) -> bool
+fn row_is(pool: &[u16], w: u64, key: u64, args: &[u16]) -> bool
     requires { Inside pool.now w × (key / 256 ≡ length args.now) }
     ensures { result ≡ row_is (row_in pool.now w) (key % 256) args.now }
 {
@@ -136,7 +136,7 @@ fn seek(
             return Sought::Crowded;
         }
         let w = words[p - 1];
-        if row_is_lem(pool, w, key, args) {
+        if row_is(pool, w, key, args) {
             return Sought::At(p - 1);
         }
         p = rows::next_in(w);

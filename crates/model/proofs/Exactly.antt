@@ -47,9 +47,9 @@ module _ {A : Type 0} where
         every = λ a p. let b = back a p in subst (λ (x : A). Memᴰ x (up_to un k)) b.1 (up_to_has un k (number a) b.0);
       }
 
-map_has : {A B : Type 0} (f : A → B) (xs : List A) (a : A) → Memᴰ a xs → Memᴰ (f a) (map f xs)
-map_has f xs a (Memᴰ.head e) = Memᴰ.head (ap f e)
-map_has f xs a (Memᴰ.tail {xs = ys} m) = Memᴰ.tail (map_has f ys a m)
+map_has : {A B : Type 0} (f : A → B) (a : A) (xs : List A) → Memᴰ a xs → Memᴰ (f a) (map f xs)
+map_has f a xs (Memᴰ.head e) = Memᴰ.head (ap f e)
+map_has f a xs (Memᴰ.tail {xs = ys} m) = Memᴰ.tail (map_has f a ys m)
 
 -- as many images as things, where different things have different images
 pub exactly_map : {A B : Type 0} (f : A → B) (a : A) (P : A → Type 0) (Q : B → Type 0) (n : ℕ)
@@ -60,7 +60,7 @@ exactly_map {A} {B} f a P Q n once there back e =
       many = length-map e.list f ∙ e.many;
       different = λ i j d li lj h. e.different i j a li lj (once (at i) (at j) (e.each i a li) (e.each j a lj) (sym (image i d li) ∙ h ∙ image j d lj));
       each = λ i d l. subst Q (sym (image i d l)) (there (at i) (e.each i a l));
-      every = λ b q. let p = back b q in subst (λ (x : B). Memᴰ x (map f e.list)) p.2 (map_has f e.list p.0 (e.every p.0 p.1));
+      every = λ b q. let p = back b q in subst (λ (x : B). Memᴰ x (map f e.list)) p.2 (map_has f p.0 e.list (e.every p.0 p.1));
     }
   where
     at : ℕ → A

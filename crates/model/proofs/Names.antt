@@ -185,7 +185,7 @@ pub names_list : (names : List ℕ) → Sound names → IsNamesList names
 names_list names s =
     let bytes : Line → List ℕ = λ l. l.bytes in
     let count = length-map (lines_of names) bytes in
-    let name : (k : ℕ) → get_or (map bytes (lines_of names)) k [] ≡ (line_at names k).bytes = λ k. ListN.get_d_map bytes (lines_of names) k no_line in
+    let name : (k : ℕ) → get_or (map bytes (lines_of names)) k [] ≡ (line_at names k).bytes = λ k. ListN.get_or-map bytes (lines_of names) k no_line in
     record {
       lines = map bytes (lines_of names);
       some = rw count s.some;

@@ -334,6 +334,7 @@ listed_place names text w k p o e = go (decided (length text) (name_ground names
 -- one place at most is that of the earliest name that is not listed
 pub unlisted_once : (names : List ℕ) (xs : List Placed) (p q : ℕ) → FirstUnlisted names xs p → FirstUnlisted names xs q → p ≡ q
 unfolding FirstUnlisted
+unlisted_once names [] p q x'' _ = elim x'' [ ]
 unlisted_once names (x ∷ xs) p q (inl f) (inl g) = sym f.1 ∙ g.1
 unlisted_once names (x ∷ xs) p q (inl f) (inr g) = absurd (not_both (is_listed names x.name) g.0 f.0)
 unlisted_once names (x ∷ xs) p q (inr f) (inl g) = absurd (not_both (is_listed names x.name) f.0 g.0)

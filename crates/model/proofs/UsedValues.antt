@@ -6,14 +6,14 @@ use mathlib.Core.Bool.{Bool, true, false}
 use mathlib.Core.List.{List, [], ◌∷◌, map}
 use mathlib.Core.Logic.{◌⊎◌, inl, inr}
 use native.Mathlib.Omega.{arith}
-use native.Mathlib.Nat.{not-suc-le-zero, le_of_suc-le-suc, mul-pos, eq-zero-or-pos}
+use native.Mathlib.Nat.{not-suc-le-zero, mul-pos, eq-zero-or-pos}
 use lib.ListN.{length, get_or, take, length-map}
 use lib.Dec.{eqb, ltb}
 use borrow.Author.Tests.{eqb-true, ltb-true}
 use Rattle.model.specs.Answers.{Outcome, result, refused}
 use Rattle.model.specs.Choice.{if◌then◌else◌}
 use Rattle.model.specs.Table.{Row, Table, IsRow, no_row}
-use Rattle.model.specs.Tree.{Forest, Tree, empty, node, only, serial}
+use Rattle.model.specs.Tree.{Forest, Tree, node, only, serial}
 use Rattle.model.specs.Reach.{Reach, none, row, Reaches, Accepted, state_of, entry_of}
 use Rattle.model.specs.Count.{sum, product, row_counts, weight, Counts, count, total}
 use Rattle.model.specs.Value.{horner, earlier_rows, row_value, values_of, number_of, Picked, find_by, children_from, tree_in, tree_of}

@@ -1,5 +1,6 @@
 // The answers of every operation: a result, or a refusal with its kind and place.
 #![tactic(auto)]
+
 ghost use Rattle.std.specs.Prelude.{◌≡◌};
 ghost use Rattle.model.specs.Answers.{refused, kind_number, refused_by, outcome};
 

@@ -192,7 +192,7 @@ fn put_tree(entries: &[u8; 4096], needed: usize, tree: &mut [u16]) -> Answer
 }
 
 // Reads a text by a names list that keeps to the rules.
-fn read_named_lem(
+fn read_named(
     names: &[u8],
     seed: u64,
     starts: &[u16; 256],
@@ -227,7 +227,7 @@ pub fn read_term(names: &[u8], text: &[u8], tree: &mut [u16]) -> Answer
     let seed = list_seed(names);
     match check_names(names, seed, &mut starts, &mut heads, &mut next) {
         NamesCheck::Faulty(line) => refused_answer(Kind::FaultyNames, line as u64),
-        NamesCheck::Sound(n) => read_named_lem(names, seed, &starts, &heads, &next, n, text, tree),
+        NamesCheck::Sound(n) => read_named(names, seed, &starts, &heads, &next, n, text, tree),
     }
 }
 

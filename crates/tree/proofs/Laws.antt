@@ -16,7 +16,7 @@ use Rattle.model.specs.Entries.{open_after, open_at, entry_ground, ends_too_soon
 use Rattle.model.proofs.Choice.{no_fault, fault_refused, none_more}
 use Rattle.model.proofs.Entries.{open_append, tree_then_back}
 use Rattle.model.specs.declared.Refusal.{Refusal}
-use Rattle.tree.specs.Reading.{fresh, not_aTree, step_of, end_of, form_check_then, Decides}
+use Rattle.tree.specs.Reading.{fresh, not_a_tree, step_of, end_of, form_check_then, Decides}
 use Rattle.tree.specs.declared.Reading.{Reading}
 use Rattle.tree.specs.declared.Step.TheVariants.{Opens, Closes, Refuses}
 use Rattle.tree.specs.declared.Form.{Form}
@@ -37,12 +37,12 @@ refusing s e = ltb 255 e || (eqb e 0 && eqb s.depth 0) || (ltb 0 s.place && eqb 
 
 -- what a step is, by its tests
 pub step_is : (s : Reading) (e : ℕ) (h z y b : Bool) → ltb 255 e ≡ h → eqb e 0 ≡ z → eqb s.depth 0 ≡ y → ltb 0 s.place ≡ b
-    → step_of s e ≡ (if h || (z && y) || (b && y) then Refuses (not_aTree s.place) else if z then Closes (record { depth = s.depth - 1; place = s.place + 1 }) else Opens (record { depth = s.depth + 1; place = s.place + 1 }))
+    → step_of s e ≡ (if h || (z && y) || (b && y) then Refuses (not_a_tree s.place) else if z then Closes (record { depth = s.depth - 1; place = s.place + 1 }) else Opens (record { depth = s.depth + 1; place = s.place + 1 }))
 unfolding step_of
 step_is s e h z y b p q r t = rw (p, q, r, t)
 
 -- what the end is, by its tests
-pub end_is : (s : Reading) (z d : Bool) → eqb s.place 0 ≡ z → ltb 0 s.depth ≡ d → end_of s ≡ (if z || d then RefusesList (not_aTree s.place) else Tree)
+pub end_is : (s : Reading) (z d : Bool) → eqb s.place 0 ≡ z → ltb 0 s.depth ≡ d → end_of s ≡ (if z || d then RefusesList (not_a_tree s.place) else Tree)
 unfolding end_of
 end_is s z d p q = rw (p, q)
 
@@ -147,7 +147,7 @@ module _ {tree : List ℕ} {s : Reading} {i : ℕ} (r : Read tree s i) (ge : len
     decided = λ o. ap (λ (g : Form). form_check_then g o) e ∙ told (eqb s.place 0 || ltb 0 s.depth) o ∙ rw (place_end, depth_end) (sym (after o));
   }
     where
-      told : (b : Bool) (o : Outcome) → form_check_then (if b then RefusesList (not_aTree s.place) else Tree) o ≡ (if b then refused 13 s.place else o)
+      told : (b : Bool) (o : Outcome) → form_check_then (if b then RefusesList (not_a_tree s.place) else Tree) o ≡ (if b then refused 13 s.place else o)
       told true o = refl
       told false o = refl
 

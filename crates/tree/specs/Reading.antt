@@ -15,20 +15,20 @@ abbrev pub fresh : Reading
 fresh = record { depth = 0; place = 0 }
 
 -- refusal 13 at a place
-abbrev pub not_aTree : ℕ → Refusal
-not_aTree place = record { place = place; kind = NotATree }
+abbrev pub not_a_tree : ℕ → Refusal
+not_a_tree place = record { place = place; kind = NotATree }
 
 -- "each entry read opens a node, closes one, or is refused": it is refused if it "is above 255, is a bar with no node open, or follows the
 -- root's bar"
 unfoldable pub step_of : Reading → ℕ → Step
 step_of r e =
-    if ltb 255 e || (eqb e 0 && eqb r.depth 0) || (ltb 0 r.place && eqb r.depth 0) then Refuses (not_aTree r.place) else
+    if ltb 255 e || (eqb e 0 && eqb r.depth 0) || (ltb 0 r.place && eqb r.depth 0) then Refuses (not_a_tree r.place) else
     if eqb e 0 then Closes (record { depth = r.depth - 1; place = r.place + 1 }) else
     Opens (record { depth = r.depth + 1; place = r.place + 1 })
 
 -- "for a list that ends too soon (an empty one too) the place is its length"
 unfoldable pub end_of : Reading → Form
-end_of r = if eqb r.place 0 || ltb 0 r.depth then RefusesList (not_aTree r.place) else Tree
+end_of r = if eqb r.place 0 || ltb 0 r.depth then RefusesList (not_a_tree r.place) else Tree
 
 -- the refusal, or where the list is a tree what follows
 abbrev pub form_check_then : Form → Outcome → Outcome

@@ -1,7 +1,8 @@
 // A tree's entries, read one by one: refusals 12 and 13.
 #![tactic(auto)]
+
 ghost use Rattle.std.specs.Prelude.{◌≡◌, ◌<◌, ◌≤◌};
-ghost use Rattle.tree.specs.Reading.{fresh, not_aTree, step_of, end_of, Decides};
+ghost use Rattle.tree.specs.Reading.{fresh, not_a_tree, step_of, end_of, Decides};
 
 use model::{Kind, Refusal, refuse};
 
@@ -29,7 +30,7 @@ pub enum Form {
 
 // Refusal 13 at a place.
 fn not_a_tree(place: usize) -> Refusal
-    ensures { result ≡ not_aTree place }
+    ensures { result ≡ not_a_tree place }
 {
     Refusal {
         place: place as u64,

@@ -1,5 +1,6 @@
 // Eight bytes as one number, and what can be told of all eight by operations on it.
 #![tactic(auto)]
+
 ghost use Rattle.std.specs.Prelude.{◌≡◌, ◌+◌, ◌<◌, ◌≤◌, length};
 ghost use Rattle.model.specs.Names.{lower};
 ghost use Rattle.words.specs.Words.{lanes, words_alike, inner_ahead, foreign, Word, WordPut};
