@@ -1,5 +1,6 @@
 // An index of rows: the row with a symbol and arguments, and the packed rows taken in turn by the grounds 2 to 6.
 #![tactic(auto)]
+
 ghost use Rattle.std.specs.Prelude.{◌≡◌, ◌+◌, ◌*◌, ◌/◌, ◌%◌, ◌<◌, ◌≤◌, length, get_or, drop};
 ghost use Rattle.model.specs.Table.{same_list, row_is};
 ghost use Rattle.rows.specs.Words.{row_in, row_held, rows_in, nexts, Inside, Held};
