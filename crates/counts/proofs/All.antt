@@ -18,14 +18,14 @@ use Rattle.model.specs.Count.{sum, row_counts, weight, row_longest, largest, sta
 use Rattle.model.specs.Value.{earlier_rows}
 use Rattle.model.proofs.Good.{Ordered}
 use Rattle.model.proofs.Counting.{map_agree, weight_local, state_counts_local, state_longest_local, count_eqn, longest_eqn, count_beyond}
-use Rattle.model.proofs.UsedKept.{cap, Alike, kept_alike, state_kept, earlier_kept, longest_kept, longest_alike}
+use Rattle.model.proofs.UsedKept.{cap, kept_alike, state_kept, earlier_kept, longest_kept, longest_alike}
 use Rattle.rows.specs.Words.{row_no, rows_in}
 use Rattle.rows.proofs.Words.{rows_long, row_held_lem, args_long}
 use Rattle.counts.specs.declared.Counted.{Counted}
 use Rattle.counts.specs.Chain.{target}
 use Rattle.counts.specs.Marks.{top, ceiling, long_ceiling, long_in, bits_in, empty_in, over_in, over_of, Tells}
 use Rattle.counts.specs.Kept.{Sound, Is}
-use Rattle.counts.specs.States.{held, held_whole, held_long, row_table, Countable, Summed, CountReady, CountsKnown, CountedStates}
+use Rattle.counts.specs.States.{held, held_whole, held_long, row_table, Countable, Summed, CountReady, CountedStates}
 use Rattle.counts.proofs.KeptCounts.{kept, kept_low, is_same}
 
 -- no count depends on the accepting list, so no sum of earlier rows and no longest tree does

@@ -1,5 +1,5 @@
 -- What marks tell, and what their sum over a row's arguments tells. Assumes nothing.
-use Prim.Native.Nat.{ℕ, zero, suc, ◌+◌, ◌*◌, ◌/◌, ◌%◌, ◌^◌, ◌<◌, ◌≤◌, min}
+use Prim.Native.Nat.{ℕ, suc, ◌+◌, ◌*◌, ◌%◌, ◌^◌, ◌<◌, ◌≤◌, min}
 use mathlib.Core.Path.{◌≡◌, refl, sym, ap, ◌∙◌, subst}
 use mathlib.Core.List.{List, [], ◌∷◌, map}
 use mathlib.Core.Logic.{◌⊎◌, inl, inr}
@@ -7,14 +7,14 @@ use native.Mathlib.Nat.{mul-zero, zero-mul, mul_comm, mul-pos, mul-le-mul, le_tr
 use native.Mathlib.Decide.{dec_le}
 use native.Mathlib.Omega.{arith}
 use lib.ListN.{length, get_or, drop, drop_of_length-le}
-use lib.Dec.{leb, ltb}
+use lib.Dec.{ltb}
 use lib.Pow.{pow-add, pow_mono}
 use borrow.Author.Tests.{lt-ltb, le-ltb, le-leb, lt-leb}
 use Rattle.model.specs.Choice.{if◌then◌else◌}
 use Rattle.model.specs.Count.{sum, product}
 use Rattle.model.proofs.Lists.{drop_next}
 use Rattle.counts.specs.declared.Kept.{Kept}
-use Rattle.counts.specs.Marks.{top, ceiling, long_ceiling, long_in, bits_in, empty_in, over_of, Roomy, Tells}
+use Rattle.counts.specs.Marks.{top, ceiling, long_ceiling, long_in, bits_in, empty_in, Roomy, Tells}
 use Rattle.counts.specs.Kept.{Sound, Is}
 use Rattle.counts.specs.States.{held, held_whole, held_long, Marked, MarksTell, Some, Fits, Weighable, weight_by}
 use Rattle.counts.proofs.KeptCounts.{kept, sound_over, sound_zero, is_zero, is_over, is_count, is_same}

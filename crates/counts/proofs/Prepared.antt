@@ -1,6 +1,6 @@
 -- The counts of used states, and those of all states. Assumes nothing.
 use Prim.Native.Nat.{ℕ, ◌≤◌, ◌<◌}
-use mathlib.Core.Path.{◌≡◌, refl, sym, ap, subst, ◌∙◌}
+use mathlib.Core.Path.{◌≡◌, refl, sym, subst, ◌∙◌}
 use mathlib.Core.Bool.{Bool, true, false}
 use mathlib.Core.Logic.{◌⊎◌, inl, inr}
 use mathlib.Core.List.{List, map}
@@ -9,13 +9,13 @@ use native.Mathlib.Decide.{dec_le}
 use native.Mathlib.Nat.{eq-zero-or-pos, lt_of_not-le}
 use lib.ListN.{length, get_or}
 use Rattle.model.specs.Choice.{if◌then◌else◌}
-use Rattle.model.specs.Table.{Row, Table}
+use Rattle.model.specs.Table.{Table}
 use Rattle.model.specs.Count.{grow, weight, state_counts, count, longest}
 use Rattle.model.specs.Value.{earlier_rows}
 use Rattle.model.specs.Used.{is_used, used_count}
 use Rattle.model.specs.Check.{count_limit}
 use Rattle.model.proofs.Choice.{not_both}
-use Rattle.model.proofs.Good.{Ordered, Sound, Good}
+use Rattle.model.proofs.Good.{Ordered, Good}
 use Rattle.model.proofs.Counting.{grow_length, grow_eqn, sum_take_le, count_eqn, count_beyond}
 use Rattle.model.proofs.Checked.{limit_good}
 use Rattle.model.proofs.Used.{used_marks, used_beyond, listed_marked}

@@ -9,7 +9,7 @@ use native.Mathlib.Omega.{arith}
 use lib.ListN.{length, get_or, drop, drop_of_length-le}
 use Rattle.model.specs.Count.{product}
 use Rattle.model.proofs.Lists.{drop_next}
-use Rattle.counts.specs.Marks.{top, ceiling}
+use Rattle.counts.specs.Marks.{top}
 use Rattle.counts.specs.Kept.{Is}
 use Rattle.counts.specs.States.{held, Some}
 use Rattle.counts.proofs.KeptCounts.{kept, is_over}

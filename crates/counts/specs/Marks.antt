@@ -1,5 +1,5 @@
 -- Marks of states: one number that tells how many trees a state has and how long the longest is. Assumes nothing: these are definitions.
-use Rattle.std.specs.Prelude.{ℕ, ◌+◌, ◌/◌, ◌%◌, ◌^◌, ◌<◌, ◌≤◌, ◌≡◌, Bool, ◌⊎◌, leb}
+use Rattle.std.specs.Prelude.{ℕ, ◌/◌, ◌%◌, ◌^◌, ◌<◌, ◌≤◌, ◌≡◌, Bool, ◌⊎◌, leb}
 
 -- the largest number of 64 bits, and the first beyond
 abbrev pub top : ℕ

@@ -2,6 +2,7 @@
 // bits its count needs, whether that is beyond 64 bits, and whether the state has no trees. Sums of sixteen marks keep these parts apart, so one
 // sum over a row's arguments decides nearly every row without a tested product.
 #![tactic(auto)]
+
 ghost use Rattle.std.specs.Prelude.{◌≡◌, ◌+◌, ◌^◌, ◌<◌, ◌≤◌, ◌%◌, min, max, ltb, map};
 ghost use Rattle.model.specs.Choice.{if◌then◌else◌};
 ghost use Rattle.model.specs.Count.{sum, product};
