@@ -1,5 +1,6 @@
 // Writing the tree of a number of a table that passes.
 #![tactic(auto)]
+
 ghost use Rattle.std.specs.Prelude.{◌≡◌, ◌≤◌, length};
 ghost use Rattle.rows.specs.Words.{rows_in};
 ghost use Rattle.unrank.specs.UnrankReady.{ValueReady, WriteReady, NumberReady};
