@@ -3,7 +3,7 @@
 use Prim.Native.Nat.{ℕ, ◌+◌, ◌<◌, ◌≤◌}
 use mathlib.Core.Path.{◌≡◌, refl, sym, ap, ◌∙◌}
 use mathlib.Core.Bool.{Bool, true, false}
-use mathlib.Core.List.{List, [], ◌∷◌, map}
+use mathlib.Core.List.{List, map}
 use native.Mathlib.Omega.{arith}
 use lib.ListN.{length, get_or}
 use lib.Dec.{ltb}
@@ -12,7 +12,7 @@ use Rattle.model.specs.Answers.{Outcome, result, refused}
 use Rattle.model.specs.Table.{Row, Table, no_row, IsRow, row_is}
 use Rattle.model.specs.Tree.{Tree, WellFormed}
 use Rattle.model.specs.Reach.{row_with, target_of}
-use Rattle.model.specs.Count.{product, weight, state_counts, Counts, count, total}
+use Rattle.model.specs.Count.{product, weight, state_counts, Counts, count}
 use Rattle.model.specs.Used.{is_used, used_count, formed_value}
 use Rattle.model.specs.Value.{horner, earlier_rows, number_of, tree_number}
 use Rattle.model.specs.Check.{count_limit}
@@ -32,9 +32,9 @@ use Rattle.model.proofs.UsedValues.{count_used, count_unused, used_just, just_us
 use Rattle.chains.specs.declared.Found.{Found}
 use Rattle.chains.specs.declared.Found.TheVariants.{At, Nothing}
 use Rattle.chains.proofs.First.{first_is, first_none}
-use Rattle.rows.specs.Words.{row_no, rows_in, nexts, held_table, Held}
+use Rattle.rows.specs.Words.{row_no, rows_in, held_table}
 use Rattle.rows.proofs.Words.{rows_long}
-use Rattle.index.specs.Index.{Index, row_found}
+use Rattle.index.specs.Index.{row_found}
 use Rattle.counts.specs.Chain.{target}
 use Rattle.counts.specs.States.{held}
 use Rattle.counts.proofs.Prepared.{as_counted, sum_used}

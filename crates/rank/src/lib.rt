@@ -1,5 +1,6 @@
 // Numbering a tree of a table that passes.
 #![tactic(auto)]
+
 ghost use Rattle.std.specs.Prelude.{◌≡◌, ◌<◌, ◌≤◌, length, set};
 ghost use Rattle.model.specs.Answers.{outcome};
 ghost use Rattle.model.specs.Tree.{WellFormed};
