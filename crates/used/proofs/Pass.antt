@@ -1,9 +1,9 @@
 -- The pass from the highest state down: the marks satisfy, at every turn, what the rows with targets from here on say; where every state below
 -- that has trees is marked they are final. Assumes nothing.
 use Prim.Native.Nat.{ℕ, suc, ◌-◌, ◌<◌, ◌≤◌}
-use mathlib.Core.Path.{◌≡◌, refl, sym, ap, ◌∙◌, subst}
+use mathlib.Core.Path.{◌≡◌, refl, sym, ap, ◌∙◌}
 use mathlib.Core.Bool.{Bool, true, false, ◌&&◌, ◌||◌}
-use mathlib.Core.List.{List, map}
+use mathlib.Core.List.{List}
 use mathlib.Core.Logic.{◌⊎◌, inl, inr}
 use native.Mathlib.Nat.{pos_of_ne-zero}
 use native.Mathlib.Decide.{dec_le}
@@ -13,7 +13,7 @@ use lib.Dec.{eqb, ltb, leb}
 use borrow.Author.Tests.{eqb-true, lt-ltb, ltb-true}
 use Rattle.model.specs.Choice.{any_below}
 use Rattle.model.specs.Table.{Table, Row, no_row}
-use Rattle.model.specs.Count.{product, row_counts, count}
+use Rattle.model.specs.Count.{row_counts, count}
 use Rattle.model.specs.Reach.{is_among}
 use Rattle.model.specs.Used.{used_by, state_used, is_used}
 use Rattle.model.proofs.Choice.{is_false, and_true, or_true, or_left, or_right, any_none, any_true, any_some}
@@ -24,7 +24,7 @@ use Rattle.rows.specs.Words.{rows_in, row_no, held_table}
 use Rattle.rows.proofs.Words.{rows_long}
 use Rattle.counts.specs.Chain.{target, InOrder}
 use Rattle.counts.specs.States.{held}
-use Rattle.used.specs.Marked.{is_set, Placed, NoneEmpty, RowPlaced, MarkedToo, row_names, listed_by, named_row, named_for, AllMarked, PassedBy, TurnReady, Turned, PassReady, FoundUsed}
+use Rattle.used.specs.Marked.{is_set, NoneEmpty, RowPlaced, MarkedToo, row_names, listed_by, named_row, named_for, AllMarked, PassedBy, TurnReady, Turned, PassReady, FoundUsed}
 use Rattle.used.proofs.Marks.{same_test, or_none, all_marked_none}
 use Rattle.used.proofs.Turn.{factor_some}
 

@@ -1,5 +1,6 @@
 // Which states are used, and the limits that used states are held to.
 #![tactic(auto)]
+
 ghost use Rattle.std.specs.Prelude.{◌≡◌, ◌≤◌, true, ◌||◌, map, length, ltb};
 ghost use Rattle.model.specs.Count.{product};
 ghost use Rattle.model.specs.Reach.{is_among};
