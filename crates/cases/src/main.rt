@@ -17,12 +17,14 @@
 // with a number that does not fit (names and texts: 8 bits; rows, accepting entries and trees: 16; all
 // others: 64), a list of more than 66,000, or more than 80,000 numbers, or 80,002 with the short forms written out.
 #![tactic(auto)]
+
 ghost use Rattle.std.specs.Prelude.{◌≡◌};
 ghost use Rattle.cases.specs.Decimal.{grown};
 ghost use Rattle.cases.specs.Lists.{Sound};
 
-use libc::{STDIN_FILENO, STDOUT_FILENO};
 use model::Answer;
+use std::io;
+use std::io::{BufWriter, Read, Write};
 
 // The numbers of a line as it is read, and with its short forms written out.
 const ROOM: usize = 80000;
@@ -73,23 +75,22 @@ fn none() -> List
 }
 
 // The list of the numbers from one place to before another, if it is not too long and no entry is above `most`.
-fn list_of(numbers: &[u64; WHOLE], mut at: usize, end: usize, most: u16) -> List
+fn list_of(numbers: &[u64; WHOLE], at: usize, end: usize, most: u16) -> List
     ensures { Sound result }
 {
     let mut list = none();
     let mut i: usize = 0;
-    while at < end {
+    for place in at..end {
         if i >= LIST {
             return none();
         }
-        let x = value_at(numbers, at);
+        let x = value_at(numbers, place);
         if x > most as u64 {
             return none();
         }
         list.entries[i] = x as u16;
         list.bytes[i] = byte(x);
         i += 1;
-        at += 1;
     }
     list.count = i;
     list.end = end;
@@ -137,68 +138,64 @@ fn widened(b: u8) -> u16
 // The bytes as entries.
 fn widen(bytes: &[u8; LIST]) -> [u16; LIST] {
     let mut entries = [0u16; LIST];
-    let mut i: usize = 0;
-    while i < LIST {
+    for i in 0..LIST {
         entries[i] = widened(bytes[i]);
-        i += 1;
     }
     entries
 }
 
-fn print_entry(entry: u64) {
-    io::write_all(STDOUT_FILENO, b" ");
-    io::print_decimal(STDOUT_FILENO, entry);
+fn print_entry<W: Write>(out: &mut W, entry: u64) -> io::Result<()> {
+    write!(out, " {entry}")
 }
 
 // An answer of the operation.
-fn say(operation: u64, answer: Answer) {
+fn say<W: Write>(out: &mut W, operation: u64, answer: Answer) -> io::Result<()> {
     match answer {
         Answer::Result(n) => {
             if operation == 1 {
-                io::write_all(STDOUT_FILENO, b"total");
+                out.write_all(b"total")?;
             } else {
-                io::write_all(STDOUT_FILENO, b"result");
+                out.write_all(b"result")?;
             }
-            print_entry(n);
+            print_entry(out, n)
         }
         Answer::Refused(r) => {
             let kind = r.kind;
-            io::write_all(STDOUT_FILENO, b"refused");
-            print_entry(model::kind_number(kind) as u64);
-            print_entry(r.place);
+            out.write_all(b"refused")?;
+            print_entry(out, model::kind_number(kind) as u64)?;
+            print_entry(out, r.place)
         }
     }
 }
 
 // The digest with one entry more, of a list of n. The entry is printed if they are few.
-fn with_entry(n: usize, digest: u64, x: u16) -> u64 {
+fn with_entry<W: Write>(out: &mut W, n: usize, digest: u64, x: u16) -> io::Result<u64> {
     let entry = x as u64;
     if n <= 64 {
-        print_entry(entry);
+        print_entry(out, entry)?;
     }
-    ((digest % 4294967291) * 65599 + entry) % 4294967291
+    Ok(((digest % 4294967291) * 65599 + entry) % 4294967291)
 }
 
 // The digest of a list. Its entries are printed if they are few.
-fn print_entries(list: &[u16]) -> u64 {
+fn print_entries<W: Write>(out: &mut W, list: &[u16]) -> io::Result<u64> {
     let mut digest: u64 = 0;
-    let mut i: usize = 0;
-    while i < list.len() {
-        digest = with_entry(list.len(), digest, list[i]);
-        i += 1;
+    for x in list {
+        digest = with_entry(out, list.len(), digest, *x)?;
     }
-    digest
+    Ok(digest)
 }
 
 // What a lent list, the first n of these entries, holds after the answer.
-fn say_list(entries: &[u16; LIST], n: usize) {
-    io::write_all(STDOUT_FILENO, b";");
-    let digest = print_entries(front(entries, n));
+fn say_list<W: Write>(out: &mut W, entries: &[u16; LIST], n: usize) -> io::Result<()> {
+    out.write_all(b";")?;
+    let digest = print_entries(out, front(entries, n))?;
     if n > 64 {
-        print_entry(n as u64);
-        io::write_all(STDOUT_FILENO, b" entries");
-        print_entry(digest);
+        print_entry(out, n as u64)?;
+        out.write_all(b" entries")?;
+        print_entry(out, digest)?;
     }
+    Ok(())
 }
 
 // The place of the list after a table that ends at a place. Operation 3 has a number between them.
@@ -215,7 +212,8 @@ fn third_place(operation: u64, at: usize) -> usize {
 // The functions from here to `answer_case` give false where the n numbers are no case, and then print nothing.
 
 // Operations 2 and 3, after the table.
-fn answer_tree(
+fn answer_tree<W: Write>(
+    out: &mut W,
     operation: u64,
     states: u64,
     rows: &[u16],
@@ -223,80 +221,96 @@ fn answer_tree(
     numbers: &[u64; WHOLE],
     n: usize,
     at: usize,
-) -> bool {
+) -> io::Result<bool> {
     let third = list_at(numbers, n, third_place(operation, at), false);
     if third.end != n {
-        return false;
+        return Ok(false);
     }
     let l = third.count;
     let mut x = third.entries;
     if operation == 2 {
-        say(2, operations::number(states, rows, accepting, front(&x, l)));
-        return true;
+        say(
+            out,
+            2,
+            operations::number(states, rows, accepting, front(&x, l)),
+        )?;
+        return Ok(true);
     }
-    say(
-        3,
-        operations::write(states, rows, accepting, value_at(numbers, at), &mut x[0..l]),
-    );
-    say_list(&x, l);
-    true
+    let answer = operations::write(states, rows, accepting, value_at(numbers, at), &mut x[0..l]);
+    say(out, 3, answer)?;
+    say_list(out, &x, l)?;
+    Ok(true)
 }
 
 // Operations 1 to 3.
-fn answer_table(operation: u64, numbers: &[u64; WHOLE], n: usize) -> bool {
+fn answer_table<W: Write>(
+    out: &mut W,
+    operation: u64,
+    numbers: &[u64; WHOLE],
+    n: usize,
+) -> io::Result<bool> {
     let states = value_at(numbers, 1);
     let first = list_at(numbers, n, 2, false);
     let second = list_at(numbers, n, first.end, false);
     let rows = front(&first.entries, first.count);
     let accepting = front(&second.entries, second.count);
     if operation > 1 {
-        return answer_tree(operation, states, rows, accepting, numbers, n, second.end);
+        return answer_tree(
+            out, operation, states, rows, accepting, numbers, n, second.end,
+        );
     }
     if second.end != n {
-        return false;
+        return Ok(false);
     }
-    say(1, operations::check(states, rows, accepting));
-    true
+    say(out, 1, operations::check(states, rows, accepting))?;
+    Ok(true)
 }
 
 // Operations 4 and 5.
-fn answer_term(operation: u64, numbers: &[u64; WHOLE], n: usize) -> bool {
+fn answer_term<W: Write>(
+    out: &mut W,
+    operation: u64,
+    numbers: &[u64; WHOLE],
+    n: usize,
+) -> io::Result<bool> {
     let first = list_at(numbers, n, 1, true);
     let second = list_at(numbers, n, first.end, operation == 4);
     let third = list_at(numbers, n, second.end, operation == 5);
     if third.end != n {
-        return false;
+        return Ok(false);
     }
     let l = third.count;
     let names = front_bytes(&first.bytes, first.count);
     if operation == 4 {
         let text = front_bytes(&second.bytes, second.count);
         let mut x = third.entries;
-        say(4, term::read_term(names, text, &mut x[0..l]));
-        say_list(&x, l);
-        return true;
+        let answer = term::read_term(names, text, &mut x[0..l]);
+        say(out, 4, answer)?;
+        say_list(out, &x, l)?;
+        return Ok(true);
     }
     let tree = front(&second.entries, second.count);
     let mut x = third.bytes;
-    say(5, term::write_term(names, tree, &mut x[0..l]));
-    say_list(&widen(&x), l);
-    true
+    let answer = term::write_term(names, tree, &mut x[0..l]);
+    say(out, 5, answer)?;
+    say_list(out, &widen(&x), l)?;
+    Ok(true)
 }
 
-fn answer_case(numbers: &[u64; WHOLE], n: usize) -> bool {
+fn answer_case<W: Write>(out: &mut W, numbers: &[u64; WHOLE], n: usize) -> io::Result<bool> {
     if n > WHOLE {
-        return false;
+        return Ok(false);
     }
     let operation = value_at(numbers, 0);
     match operation {
-        1 | 2 | 3 => answer_table(operation, numbers, n),
-        4 | 5 => answer_term(operation, numbers, n),
-        _ => false,
+        1 | 2 | 3 => answer_table(out, operation, numbers, n),
+        4 | 5 => answer_term(out, operation, numbers, n),
+        _ => Ok(false),
     }
 }
 
 // What stands at a place of a line: a number, or a short form.
-#[derive(Drop)]
+#[derive(Clone, Copy)]
 struct Run {
     // how many numbers it stands for: its values in turn, over and over
     count: u64,
@@ -369,16 +383,14 @@ fn write_run(
     numbers: &mut [u64; WHOLE],
     mut filled: usize,
 ) -> usize {
-    let mut left = run.count;
     let mut place = run.from;
-    while left > 0 {
+    for _ in 0..run.count {
         if filled >= WHOLE {
             return NOWHERE;
         }
         numbers[filled] = value_at(line, place);
         place = run.after(place);
         filled += 1;
-        left -= 1;
     }
     filled
 }
@@ -402,13 +414,13 @@ fn write_out(line: &[u64; WHOLE], n: usize, numbers: &mut [u64; WHOLE]) -> usize
 }
 
 // Answers a line of n numbers.
-fn answer_line(line: &[u64; WHOLE], n: usize) {
+fn answer_line<W: Write>(out: &mut W, line: &[u64; WHOLE], n: usize) -> io::Result<()> {
     let mut numbers = [0u64; WHOLE];
     let m = write_out(line, n, &mut numbers);
-    if answer_case(&numbers, m) {
-        io::write_all(STDOUT_FILENO, b"\n");
+    if answer_case(out, &numbers, m)? {
+        out.write_all(b"\n")
     } else {
-        io::write_all(STDOUT_FILENO, b"bad line\n");
+        out.write_all(b"bad line\n")
     }
 }
 
@@ -479,57 +491,62 @@ impl Line {
     }
 
     // The line ends here, and is answered.
-    fn ended(self, numbers: &mut [u64; WHOLE]) {
+    fn ended<W: Write>(self, out: &mut W, numbers: &mut [u64; WHOLE]) -> io::Result<()> {
         let line = self.closed(&mut *numbers);
-        answer_line(numbers, line.filled);
+        answer_line(out, numbers, line.filled)
     }
 
     // A byte more.
-    fn feed(self, b: u8, numbers: &mut [u64; WHOLE]) -> Line {
+    fn feed<W: Write>(self, out: &mut W, b: u8, numbers: &mut [u64; WHOLE]) -> io::Result<Line> {
         if b == b'\n' {
-            self.ended(numbers);
-            return line_of(0);
+            self.ended(out, numbers)?;
+            return Ok(line_of(0));
         }
         if b == b' ' {
-            return self.closed(numbers);
+            return Ok(self.closed(numbers));
         }
-        self.with_digit(b)
+        Ok(self.with_digit(b))
     }
 
     // No byte more. A line of no bytes is none.
-    fn last(self, numbers: &mut [u64; WHOLE]) {
+    fn last<W: Write>(self, out: &mut W, numbers: &mut [u64; WHOLE]) -> io::Result<()> {
         if self.filled == 0 {
             if !self.begun {
-                return;
+                return Ok(());
             }
         }
-        self.ended(numbers);
+        self.ended(out, numbers)
     }
 }
 
 // The bytes of one read.
-fn feed_all(mut line: Line, bytes: &[u8], numbers: &mut [u64; WHOLE]) -> Line {
-    let mut i: usize = 0;
-    while i < bytes.len() {
-        line = line.feed(bytes[i], numbers);
-        i += 1;
+fn feed_all<W: Write>(
+    out: &mut W,
+    mut line: Line,
+    bytes: &[u8],
+    numbers: &mut [u64; WHOLE],
+) -> io::Result<Line> {
+    for b in bytes {
+        line = line.feed(out, *b, numbers)?;
     }
-    line
+    Ok(line)
 }
 
-fn main() {
+// The answers to the lines that a read ends are written before the next read.
+fn main(rt: HostRuntime) -> io::Result<()> {
+    let mut input = rt.stdin();
+    let mut out = BufWriter::new(rt.alloc(), rt.stdout())?;
     let mut numbers = [0u64; WHOLE];
+    let mut bytes = [0u8; 65536];
     let mut line = line_of(0);
-    let mut turns = u64::MAX;
-    while turns > 0 {
-        let mut bytes = io::large_buffer();
-        let got = libc::read(STDIN_FILENO, &mut bytes);
-        let n = io::count(got, &bytes);
+    for _ in 0..u64::MAX {
+        let n = input.read(&mut bytes)?;
         if n == 0 {
-            line.last(&mut numbers);
-            return;
+            line.last(&mut out, &mut numbers)?;
+            return out.flush();
         }
-        line = feed_all(line, &bytes[..n], &mut numbers);
-        turns -= 1;
+        line = feed_all(&mut out, line, &bytes[..n], &mut numbers)?;
+        out.flush()?;
     }
+    Ok(())
 }

@@ -51,7 +51,7 @@ unfoldable pub digest_after : (digest : ℕ) → List Entry → ℕ
 digest_after digest es = foldl with_entry digest es
 
 -- `after` is the digest `before` with these entries. Other logs have the same digest, so this alone does not say that these are the entries: a
--- proof that uses of digests only that no entries leave them as they are (`Logged-none`) and that entries follow one another (`logged_both`), and
+-- proof that uses of digests only that no entries leave them as they are (`logged_none`) and that entries follow one another (`logged_both`), and
 -- does not unfold `digest_after`, would be one for any other digest too, the log itself among them
 abbrev pub Logged : (before after : ℕ) → List Entry → Type 0
 Logged before after entries = after ≡ digest_after before entries

@@ -1,15 +1,18 @@
 // Standard input and standard output, with a log of what goes through them. A program that reads and writes by this crate alone lends it one
 // number, the digest of its log, and its contracts can then speak of the log.
 //
-// No contract says what the C library read or wrote. So this is to be read here: that `read_part` makes one read, of standard input, and
-// `write_part` hands its part once to a write of all of it, to standard output (`io::write_all`); which answers are a failure; and that what is
-// said goes to standard error. And of a program: that it keeps one log, and changes it only by lending it to these two.
+// No contract says what the system read or wrote. So this is to be read here: that `read_part` makes one read, of standard input, and
+// `write_part` hands its part once to a write of all of it, to standard output (`Write::write_all`), neither with a buffer; which answers are a
+// failure; and that what is said goes to standard error. And of a program: that it keeps one log, and changes it only by lending it to these two.
 #![tactic(auto)]
+
 ghost use Rattle.std.specs.Prelude.{◌≡◌, map, ℕ, ◌+◌, ◌<◌, ◌≤◌, length};
 ghost use Rattle.streams.specs.Log.{Entry, entry_number, with_number, digest_after};
 ghost use Rattle.streams.specs.Parts.{Took, Wrote};
 
-use libc::{STDERR_FILENO, STDIN_FILENO, STDOUT_FILENO};
+use std::io;
+use std::io::{Read, Stderr, Stdin, Stdout, Write};
+use std::str::from_utf8;
 
 // What a read gives: so many bytes at the front of the part, the end of the input, or nothing, since it failed.
 #[derive(Drop)]
@@ -17,6 +20,27 @@ pub enum Got {
     Bytes(usize),
     End,
     Failed,
+}
+
+// The standard streams of the process, and why the last read or write that failed did so.
+#[derive(Drop)]
+pub struct Stdio {
+    input: Stdin,
+    output: Stdout,
+    errors: Stderr,
+    reason: Option<io::Error>,
+}
+
+impl Stdio {
+    // Nothing has failed.
+    pub fn new(rt: HostRuntime) -> Stdio {
+        Stdio {
+            input: rt.stdin(),
+            output: rt.stdout(),
+            errors: rt.stderr(),
+            reason: None,
+        }
+    }
 }
 
 // The numbers of the log's entries (`entry_number`): of bytes the first of 256.
@@ -46,56 +70,82 @@ fn with_bytes(digest: u64, first: u16, bytes: &[u8]) -> u64
         → result ≡ digest_after digest (map entry bytes.now) }
 {
     let mut d = digest;
-    let mut i: usize = 0;
-    while i < bytes.len() {
-        let b = bytes[i];
-        d = with_number(d, first + b as u16);
-        i += 1;
+    for b in bytes {
+        d = with_number(d, first + *b as u16);
     }
     d
 }
 
 // One read of standard input, into the part.
-pub fn read_part(log: &mut u64, part: &mut [u8]) -> Got
+pub fn read_part(stdio: &mut Stdio, log: &mut u64, part: &mut [u8]) -> Got
     requires { 0 < length part.old }
     ensures { Took log.old log.new part.new result }
 {
-    let got = libc::read(STDIN_FILENO, &mut *part);
+    let got = stdio.input.read(&mut *part);
     let before = *log;
-    if got < 0 {
-        *log = with_number(before, READ_FAILED);
-        return Got::Failed;
+    match got {
+        Ok(n) if n > 0 => {
+            *log = with_number(with_bytes(before, BYTE_READ, &part[..n]), READ_RETURNED);
+            Got::Bytes(n)
+        }
+        Ok(_) => {
+            *log = with_number(before, END_OF_INPUT);
+            Got::End
+        }
+        Err(reason) => {
+            stdio.reason = Some(reason);
+            *log = with_number(before, READ_FAILED);
+            Got::Failed
+        }
     }
-    let n = io::count(got, &*part);
-    if n == 0 {
-        *log = with_number(before, END_OF_INPUT);
-        return Got::End;
-    }
-    *log = with_number(with_bytes(before, BYTE_READ, &part[..n]), READ_RETURNED);
-    Got::Bytes(n)
 }
 
 // Writes the part to standard output, and answers whether all of it was taken.
-pub fn write_part(log: &mut u64, part: &[u8]) -> bool
+pub fn write_part(stdio: &mut Stdio, log: &mut u64, part: &[u8]) -> bool
     ensures { Wrote log.old log.new part.now result }
 {
     let before = *log;
     let handed = with_bytes(before, BYTE_WRITTEN, part);
-    if io::write_all(STDOUT_FILENO, part) {
-        *log = handed;
-        true
-    } else {
-        *log = with_number(handed, WRITE_FAILED);
-        false
+    match stdio.output.write_all(part) {
+        Ok(()) => {
+            *log = handed;
+            true
+        }
+        Err(reason) => {
+            stdio.reason = Some(reason);
+            *log = with_number(handed, WRITE_FAILED);
+            false
+        }
     }
 }
 
-// Says on standard error what failed and, by errno's text, why.
-pub fn say_failed(what: &[u8]) {
-    os::fail(what);
+// Says on standard error what failed and, by the system's text, why.
+pub fn say_failed(stdio: &Stdio, what: &[u8]) {
+    say(stdio, what);
+    if let Some(reason) = &stdio.reason {
+        say(stdio, b": ");
+        say_reason(stdio, reason);
+    }
+    say(stdio, b"\n");
+}
+
+// The library's text, without the system's number for the error, which it adds in brackets.
+fn say_reason(stdio: &Stdio, reason: &io::Error) {
+    let mut text = [0u8; 256];
+    let mut room = &mut text[..];
+    let _ = write!(room, "{reason}");
+    let n = 256usize.saturating_sub(room.len());
+    if let Ok(words) = from_utf8(&text[..n]) {
+        let words = match words.rsplit_once(" (os error ") {
+            Some((before, _)) => before,
+            None => words,
+        };
+        say(stdio, words.as_bytes());
+    }
 }
 
 // Says a line on standard error.
-pub fn say(line: &[u8]) {
-    io::write_all(STDERR_FILENO, line);
+pub fn say(stdio: &Stdio, line: &[u8]) {
+    let mut errors = stdio.errors;
+    let _ = errors.write_all(line);
 }

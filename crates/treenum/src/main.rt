@@ -4,6 +4,7 @@
 // Answers are gathered, and written when the list may have no room for one more, and before each read. All reading and writing is by the crate
 // `streams`, with one log, which `main` makes: no other crate that this one stands on reads or writes (tests/one_log).
 #![tactic(auto)]
+
 ghost use Rattle.std.specs.Prelude.{List, ℕ, ◌<◌, ◌≤◌, length};
 ghost use Rattle.line.specs.Held.{longest_line, Holds, Holding, Begins, part};
 ghost use Rattle.streams.specs.Parts.{Wrote};
@@ -11,7 +12,8 @@ ghost use Rattle.treenum.specs.Treenum.{printed_for, PrintsLine};
 ghost use Rattle.treenum.specs.Run.{Feeds, Turned, Ran};
 
 use line::{Fed, Line, empty_line};
-use streams::Got;
+use std::process::ExitCode;
+use streams::{Got, Stdio};
 
 // The rows of Figure 3, the accepting list, and the names of the symbols 1 and 2.
 const STATES: u64 = 5;
@@ -71,7 +73,14 @@ fn last_line(line: Line, text: &[u8], out: &mut [u8]) -> usize
 }
 
 // Feeds the bytes of a read, and writes what is to be printed.
-fn feed_all(line: Line, bytes: &[u8], text: &mut [u8], out: &mut [u8], log: &mut u64) -> Put
+fn feed_all(
+    line: Line,
+    bytes: &[u8],
+    text: &mut [u8],
+    out: &mut [u8],
+    stdio: &mut Stdio,
+    log: &mut u64,
+) -> Put
     requires holding { Holding line text.old }
     requires longest_line_in_bounds { longest_line ≤ length out.old }
     ensures { (held : List ℕ) → Holds held line text.old
@@ -82,7 +91,7 @@ fn feed_all(line: Line, bytes: &[u8], text: &mut [u8], out: &mut [u8], log: &mut
     while i < bytes.len() {
         let fed = gather(so_far, bytes, i, &mut *text, &mut *out);
         let n = fed.count;
-        if !streams::write_part(&mut *log, &out[..n]) {
+        if !streams::write_part(&mut *stdio, &mut *log, &out[..n]) {
             return Put::Broken;
         }
         let l = fed.line;
@@ -93,29 +102,36 @@ fn feed_all(line: Line, bytes: &[u8], text: &mut [u8], out: &mut [u8], log: &mut
 }
 
 // Writes what is to be printed where the input ends.
-fn finish(line: Line, text: &[u8], out: &mut [u8], log: &mut u64) -> bool
+fn finish(line: Line, text: &[u8], out: &mut [u8], stdio: &mut Stdio, log: &mut u64) -> bool
     requires holding { Holding line text.now }
     requires longest_line_in_bounds { longest_line ≤ length out.old }
     ensures { (held : List ℕ) → Holds held line text.now → Wrote log.old log.new (printed_for held) result }
 {
     let n = last_line(line, text, &mut *out);
-    streams::write_part(log, &out[..n])
+    streams::write_part(stdio, log, &out[..n])
 }
 
 // One read: its bytes are fed and what is to be printed is written, or the run ends.
-fn take_turn(line: Line, chunk: &mut [u8], text: &mut [u8], out: &mut [u8], log: &mut u64) -> Turn
+fn take_turn(
+    line: Line,
+    chunk: &mut [u8],
+    text: &mut [u8],
+    out: &mut [u8],
+    stdio: &mut Stdio,
+    log: &mut u64,
+) -> Turn
     requires holding { Holding line text.old }
     requires chunk_nonzero { (0 < length chunk.old) × (longest_line ≤ length out.old) }
     ensures { (reads : ℕ) (held : List ℕ) → Holds held line text.old
         → Turned reads held result text.new log.old log.new }
 {
-    match streams::read_part(&mut *log, &mut *chunk) {
-        Got::Bytes(n) => match feed_all(line, &chunk[..n], text, out, log) {
+    match streams::read_part(&mut *stdio, &mut *log, &mut *chunk) {
+        Got::Bytes(n) => match feed_all(line, &chunk[..n], text, out, stdio, log) {
             Put::Kept(l) => Turn::On(l),
             Put::Broken => Turn::Stop(Ending::WriteFailed),
         },
         Got::End => {
-            if finish(line, &*text, out, log) {
+            if finish(line, &*text, out, stdio, log) {
                 Turn::Stop(Ending::Done)
             } else {
                 Turn::Stop(Ending::WriteFailed)
@@ -126,7 +142,7 @@ fn take_turn(line: Line, chunk: &mut [u8], text: &mut [u8], out: &mut [u8], log:
 }
 
 // The whole run: reads the input to its end and writes what is to be printed for it, unless a read or a write fails; says how it ended.
-fn run(log: &mut u64) -> Ending
+fn run(stdio: &mut Stdio, log: &mut u64) -> Ending
     ensures { Ran result log.old log.new }
 {
     let mut chunk = [0u8; 16384];
@@ -136,7 +152,14 @@ fn run(log: &mut u64) -> Ending
     let mut line = empty_line();
     let mut turns = u64::MAX;
     while turns > 0 {
-        match take_turn(line, &mut chunk, &mut text, &mut out, &mut *log) {
+        match take_turn(
+            line,
+            &mut chunk,
+            &mut text,
+            &mut out,
+            &mut *stdio,
+            &mut *log,
+        ) {
             Turn::On(l) => {
                 line = l;
             }
@@ -149,18 +172,22 @@ fn run(log: &mut u64) -> Ending
     Ending::TooManyReads
 }
 
-fn main() {
+fn main(rt: HostRuntime) -> ExitCode {
+    let mut stdio = Stdio::new(rt);
     let mut log: u64 = 0;
-    match run(&mut log) {
-        Ending::Done => {}
+    match run(&mut stdio, &mut log) {
+        Ending::Done => {
+            return ExitCode::SUCCESS;
+        }
         Ending::ReadFailed => {
-            streams::say_failed(b"treenum: cannot read");
+            streams::say_failed(&stdio, b"treenum: cannot read");
         }
         Ending::WriteFailed => {
-            streams::say_failed(b"treenum: cannot write");
+            streams::say_failed(&stdio, b"treenum: cannot write");
         }
         Ending::TooManyReads => {
-            streams::say(b"treenum: the input has not ended\n");
+            streams::say(&stdio, b"treenum: the input has not ended\n");
         }
     }
+    ExitCode::FAILURE
 }
