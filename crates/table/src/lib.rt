@@ -1,5 +1,6 @@
 // Checking a table.
 #![tactic(auto)]
+
 ghost use Rattle.std.specs.Prelude.{◌≡◌, ◌≤◌, map, length};
 ghost use Rattle.model.specs.Answers.{outcome};
 ghost use Rattle.model.specs.Count.{sum};
