@@ -1,5 +1,6 @@
 // Names lists: refusal 17, and the line with a name.
 #![tactic(auto)]
+
 ghost use Rattle.std.specs.Prelude.{◌≡◌, true, ◌+◌, ◌<◌, ◌≤◌, length, drop};
 ghost use Rattle.model.specs.Names.{is_letter, is_name_byte, all_name_bytes, same_name, line_at};
 ghost use Rattle.chains.specs.Chains.{Clear};

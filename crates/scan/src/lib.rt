@@ -1,5 +1,6 @@
 // A text, read byte by byte: refusal 19.
 #![tactic(auto)]
+
 ghost use Rattle.std.specs.Prelude.{◌≡◌, ◌<◌, ◌≤◌, length};
 ghost use Rattle.model.specs.Term.{in_name, after_term, step, may_end};
 ghost use Rattle.scan.specs.TextState.{seen, seen_step, depth_of, place_of, scanned};

@@ -1,5 +1,6 @@
 // Terms: reading one into a tree, and writing a tree as one.
 #![tactic(auto)]
+
 ghost use Rattle.std.specs.Prelude.{◌≡◌, false, ◌+◌, ◌-◌, ◌<◌, ◌≤◌, length, get_or, take, ltb, eqb};
 ghost use Rattle.model.specs.Names.{is_name_byte, how_many_names};
 ghost use Rattle.model.specs.Tree.{WellFormed};

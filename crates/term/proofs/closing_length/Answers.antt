@@ -1,0 +1,12 @@
+use mathlib.Core.Path.{sym}
+use Rattle.term.proofs.EntryText.{closing_after, closing_leaf, closing_name}
+use Rattle.term.proofs.closing_length.Goals as goal
+
+pub returns-then-before-eq0 : goal.returns-then-before-eq0
+returns-then-before-eq0 c = sym (closing_after _ _ c.if-e-eq0.true c.if-before-eq0.true)
+
+pub returns-else-before-eq0 : goal.returns-else-before-eq0
+returns-else-before-eq0 c = sym (closing_leaf _ _ c.if-e-eq0.true c.if-before-eq0.false)
+
+pub returns-else-e-eq0 : goal.returns-else-e-eq0
+returns-else-e-eq0 c = sym (closing_name _ _ c.if-e-eq0.false)
