@@ -1,5 +1,6 @@
 // The operations on a table: checking it, numbering a tree, writing the tree of a number. What they set up stands here once for each size of table.
 #![tactic(auto)]
+
 ghost use Rattle.std.specs.Prelude.{◌≡◌, ◌≤◌, length};
 ghost use Rattle.model.specs.Answers.{outcome};
 ghost use Rattle.model.specs.Check.{check_outcome};
@@ -10,7 +11,7 @@ use model::Answer;
 use table::Checked;
 
 // What is asked of a table: its total, the number of the tree that is lent, or the tree of a number.
-#[derive(Drop)]
+#[derive(Clone, Copy)]
 enum Task {
     Check,
     Number,
