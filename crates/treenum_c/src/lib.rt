@@ -1,5 +1,6 @@
 // The C interface: one exported function an operation (include/treenum.h).
 #![tactic(auto)]
+
 ghost use Rattle.std.specs.Prelude.{length};
 ghost use Rattle.model.specs.Answers.{outcome};
 ghost use Rattle.model.specs.Check.{check_outcome};
