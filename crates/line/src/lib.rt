@@ -1,5 +1,6 @@
 // Lines: what is printed for the program's input, line by line, with any table and names list.
 #![tactic(auto)]
+
 ghost use Rattle.std.specs.Prelude.{◌≡◌, true, ◌&&◌, List, [], ◌∷◌, ◌++◌, ℕ, ◌+◌, ◌-◌, ◌*◌, ◌<◌, ◌≤◌, min, length, ltb};
 ghost use Rattle.model.specs.Answers.{refused_by};
 ghost use Rattle.model.specs.Number.{number_outcome};
