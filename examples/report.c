@@ -1,7 +1,7 @@
 /* The way of a report: a logger makes a tree of what it measured and sends the tree's number, four bytes or eight; the
  * desk turns the bytes back into words.
  *
- *     rt staticlib treenum_c
+ *     tools/build treenum_c
  *     gcc -std=c11 -Iinclude examples/report.c target/staticlib/libtreenum_c.a -o target/report
  *     target/report
  */

@@ -1,4 +1,4 @@
-//! Makes the archive libtreenum_c.a by `rt staticlib treenum_c`, at the top of the repository, and
+//! Makes the archive libtreenum_c.a by `tools/build treenum_c`, at the top of the repository, and
 //! has it linked.
 
 use std::fs::{self, File};
@@ -46,9 +46,9 @@ fn archive(top: &Path, copy: &Path) -> io::Result<()> {
     let lock = File::create(target.join("rust-binding.lock"))?;
     lock.lock()?;
 
-    let command = "`rt staticlib treenum_c`";
-    let status = Command::new("rt")
-        .args(["staticlib", "treenum_c"])
+    let command = "`tools/build treenum_c`";
+    let status = Command::new("tools/build")
+        .arg("treenum_c")
         .current_dir(top)
         // Standard output is for cargo. It shows the other one on a failure, and with -vv.
         .stdout(io::stderr())
