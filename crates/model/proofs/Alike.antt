@@ -7,26 +7,17 @@ use mathlib.Core.Logic.{◌↔◌}
 use native.Mathlib.Omega.{arith}
 use lib.ListN.{length-map}
 use lib.Dec.{eqb, leb}
-use borrow.Author.Tests.{eqb-true, eq-eqb, leb-true, le-leb}
+use borrow.Author.Tests.{eqb-true, eq-eqb, le-leb}
 use Rattle.model.specs.Choice.{if◌then◌else◌}
 use Rattle.model.specs.Table.{same_by, same_list}
 use Rattle.model.specs.Names.{between, is_letter, is_name_byte, all_name_bytes, is_name, lower, alike, same_name, EachAlike}
-use Rattle.model.proofs.Choice.{if_no, or_false, or_left, or_right, and_true, and_both, not_both, is_false}
+use Rattle.model.proofs.Choice.{if_no, or_false, or_left, or_right, and_both, not_both, is_false}
 use Rattle.model.proofs.Lists.{same_long, same_at, at_same}
 use Rattle.model.proofs.Rows.{same_list_refl, same_list_true}
 use Rattle.model.proofs.Bytes.{letter_byte}
+use Rattle.model.proofs.Capitals.{capital, capital_from, capital_to}
 
 -- ---- a byte in small
-
--- a letter that `lower` moves: from A to Z
-abbrev capital : ℕ → Bool
-capital b = between 65 90 b
-
-capital_from : (b : ℕ) → capital b ≡ true → 65 ≤ b
-capital_from b e = leb-true 65 b (and_true (leb 65 b) _ e).0
-
-capital_to : (b : ℕ) → capital b ≡ true → b ≤ 90
-capital_to b e = leb-true b 90 (and_true (leb 65 b) _ e).1
 
 between_in : (low high b : ℕ) → low ≤ b → b ≤ high → between low high b ≡ true
 between_in low high b l h = and_both (leb low b) (leb b high) (le-leb low b l) (le-leb b high h)

@@ -194,7 +194,7 @@ module _ (states : ℕ) (rows : List ℕ) (i : ℕ) where
   pub row_faultless : row_ground states rows i ≡ 0 → FaultlessRow states rows i
   unfolding row_ground
   row_faultless e =
-      let a = if_zero test2 1 _ e in
+      let a = if_zero test2 _ _ e in
       let b = if_zero test3 2 _ a.1 in
       let c = if_zero test4 3 _ b.1 in
       let d = if_zero test5 4 _ c.1 in

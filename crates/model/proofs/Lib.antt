@@ -29,6 +29,7 @@ pub mod Conserved
 pub mod HalfDrawn
 pub mod SixtyFour
 pub mod Bytes
+pub mod Capitals
 pub mod Alike
 pub mod Scan
 pub mod Names

@@ -87,12 +87,11 @@ module _ {A : Type 0} (d : A) (F : (ℕ → A) → ℕ → A) (states : ℕ) whe
 -- ---- one state: whether it is used depends only on the states above it
 
 used_by_local : (c : ℕ → ℕ) (u v : ℕ → Bool) (q : ℕ) (r : Row) → AllBelow r.target r.args → ((a : ℕ) → q < a → u a ≡ v a) → used_by c u q r ≡ used_by c v q r
-used_by_local c u v q r b h = go (is_among q r.args) (among_place q r.args)
+used_by_local c u v q r b h = go (is_among q r.args) refl
   where
-    go : (t : Bool) → (t ≡ true → (j : ℕ) × (j < length r.args) × (get_or r.args j 0 ≡ q))
-        → (t && (ltb 0 (row_counts c r) && u r.target)) ≡ (t && (ltb 0 (row_counts c r) && v r.target))
-    go true y = let p = y refl in rw (h r.target (omega (arith, b p.0 p.1, p.2)))
-    go false y = refl
+    go : (t : Bool) → is_among q r.args ≡ t → used_by c u q r ≡ used_by c v q r
+    go true e = let p = among_place q r.args e in rw (h r.target (omega (arith, b p.0 p.1, p.2)))
+    go false e = rw e
 
 pub state_used_local : (T : Table) → Ordered T.rows → (c : ℕ → ℕ) (u v : ℕ → Bool) (q : ℕ) → ((a : ℕ) → q < a → u a ≡ v a) → state_used T c u q ≡ state_used T c v q
 unfolding state_used
@@ -211,7 +210,7 @@ module _ (T : Table) (good : Good T) (c : ℕ → ℕ) (counts : Counts T c) (u 
       marks.state q (subst (λ (a : ℕ). a < T.states) e (args_states good.sound w j l))
       ∙ or_right (ltb 0 (c q) && is_among q T.accepting) _
       (any_true (length T.rows) i (λ i. used_by c u q (get_or T.rows i no_row)) w.inside
-      (rw w.is (and_both (is_among q xs) _ (place_among q j xs l e) (and_both (ltb 0 (product (map c xs))) (u p) (lt-ltb 0 (product (map c xs)) n) h))))
+      (simp (w.is, place_among q j xs l e, lt-ltb 0 (product (map c xs)) n, h)))
 
   -- a used state has trees
   pub marked_pos : (q : ℕ) → u q ≡ true → 0 < c q
