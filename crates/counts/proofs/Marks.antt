@@ -1,4 +1,5 @@
 -- What marks tell, and what their sum over a row's arguments tells. Assumes nothing.
+use Rattle.std.specs.Prelude.{if◌then◌else◌}
 use Prim.Native.Nat.{ℕ, suc, ◌+◌, ◌*◌, ◌%◌, ◌^◌, ◌<◌, ◌≤◌, min}
 use mathlib.Core.Path.{◌≡◌, refl, sym, ap, ◌∙◌, subst}
 use mathlib.Core.List.{List, [], ◌∷◌, map}
@@ -10,7 +11,6 @@ use lib.ListN.{length, get_or, drop, drop_of_length-le}
 use lib.Dec.{ltb}
 use lib.Pow.{pow-add, pow_mono}
 use borrow.Author.Tests.{lt-ltb, le-ltb, le-leb, lt-leb}
-use Rattle.model.specs.Choice.{if◌then◌else◌}
 use Rattle.model.specs.Count.{sum, product}
 use Rattle.model.proofs.Lists.{drop_next}
 use Rattle.counts.specs.declared.Kept.{Kept}

@@ -1,4 +1,5 @@
 -- The counts of used states, and those of all states. Assumes nothing.
+use Rattle.std.specs.Prelude.{if◌then◌else◌}
 use Prim.Native.Nat.{ℕ, ◌≤◌, ◌<◌}
 use mathlib.Core.Path.{◌≡◌, refl, sym, subst, ◌∙◌}
 use mathlib.Core.Bool.{Bool, true, false}
@@ -8,7 +9,6 @@ use native.Mathlib.Omega.{arith}
 use native.Mathlib.Decide.{dec_le}
 use native.Mathlib.Nat.{eq-zero-or-pos, lt_of_not-le}
 use lib.ListN.{length, get_or}
-use Rattle.model.specs.Choice.{if◌then◌else◌}
 use Rattle.model.specs.Table.{Table}
 use Rattle.model.specs.Count.{grow, weight, state_counts, count, longest}
 use Rattle.model.specs.Value.{earlier_rows}

@@ -1,4 +1,5 @@
 -- Counting one state along the chain of its rows. Assumes nothing.
+use Rattle.std.specs.Prelude.{if◌then◌else◌}
 use Prim.Native.Nat.{ℕ, zero, suc, ◌+◌, ◌-◌, ◌<◌, ◌≤◌, ◌%◌, min, max}
 use mathlib.Core.Path.{◌≡◌, refl, sym, ap, ◌∙◌, subst}
 use mathlib.Core.Bool.{Bool, true, false}
@@ -9,7 +10,6 @@ use lib.ListN.{length, get_or, take, set, length-set, length-map}
 use lib.Seq.{take_all, get_or-set_same, get_or-set_other}
 use lib.Dec.{eqb, ltb}
 use borrow.Author.Tests.{eq-eqb, ne_eqb, ltb-true, ltb-false, eqb-true, eqb-false}
-use Rattle.model.specs.Choice.{if◌then◌else◌}
 use Rattle.model.specs.Table.{Row, no_row}
 use Rattle.model.specs.Count.{sum, product, largest, weight, row_longest, state_counts, state_longest}
 use Rattle.model.specs.Value.{earlier_rows}

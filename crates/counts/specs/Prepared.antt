@@ -1,6 +1,5 @@
 -- What is left of the counts of a table within the limits: those of its used states, or of all states. Assumes nothing: these are definitions.
-use Rattle.std.specs.Prelude.{ℕ, ◌<◌, ◌≡◌, List, length, get_or}
-use Rattle.model.specs.Choice.{if◌then◌else◌}
+use Rattle.std.specs.Prelude.{ℕ, ◌<◌, ◌≡◌, List, length, get_or, if◌then◌else◌}
 use Rattle.model.specs.Check.{count_limit, limit_ground}
 use Rattle.model.specs.Table.{Table}
 use Rattle.model.specs.Count.{grow, count}

@@ -1,6 +1,5 @@
 -- Counts and longest trees, state by state, whatever they are. Assumes nothing: these are definitions.
-use Rattle.std.specs.Prelude.{ℕ, ◌+◌, ◌<◌, ◌≤◌, min, ◌≡◌, List, [], map, length, get_or, leb, ltb}
-use Rattle.model.specs.Choice.{if◌then◌else◌}
+use Rattle.std.specs.Prelude.{ℕ, ◌+◌, ◌<◌, ◌≤◌, min, ◌≡◌, List, [], map, length, get_or, leb, ltb, if◌then◌else◌}
 use Rattle.model.specs.Table.{Row, Table}
 use Rattle.model.specs.Count.{product, state_counts, state_longest, count, longest}
 use Rattle.model.specs.Value.{earlier_rows}

@@ -3,8 +3,7 @@
 // sum over a row's arguments decides nearly every row without a tested product.
 #![tactic(auto)]
 
-ghost use Rattle.std.specs.Prelude.{◌≡◌, ◌+◌, ◌^◌, ◌<◌, ◌≤◌, ◌%◌, min, max, ltb, map};
-ghost use Rattle.model.specs.Choice.{if◌then◌else◌};
+ghost use Rattle.std.specs.Prelude.{◌≡◌, ◌+◌, ◌^◌, ◌<◌, ◌≤◌, ◌%◌, min, max, ltb, map, if◌then◌else◌};
 ghost use Rattle.model.specs.Count.{sum, product};
 ghost use Rattle.rows.specs.Words.{rows_in};
 ghost use Rattle.counts.specs.Chain.{Chainable, ChainedRows};

@@ -1,4 +1,5 @@
 -- Laws of the one pass: the grounds 2 to 5 row by row, and 6 by the index of the rows before. Assumes nothing.
+use Rattle.std.specs.Prelude.{if◌then◌else◌}
 use Prim.Native.Nat.{ℕ, zero, suc, ◌+◌, ◌*◌, ◌<◌, ◌≤◌}
 use mathlib.Core.Path.{◌≡◌, refl, sym, ap, ◌∙◌}
 use mathlib.Core.Bool.{Bool, true, false}
@@ -13,7 +14,7 @@ use borrow.Author.Count.{below_more}
 use Rattle.model.specs.declared.Kind.{Kind}
 use Rattle.model.specs.declared.Kind.TheVariants.{RepeatedRow}
 use Rattle.model.specs.Answers.{kind_number}
-use Rattle.model.specs.Choice.{if◌then◌else◌, any_below}
+use Rattle.model.specs.Choice.{any_below}
 use Rattle.model.specs.Table.{row_is, row_at, args_at, arg_count_at, row_start, row_numbered, how_many_rows, first_rows, rows_of}
 use Rattle.model.specs.Check.{repeated, row_ground}
 use Rattle.model.proofs.Numbers.{kind_positive}

@@ -1,4 +1,5 @@
 -- "Reading takes either spelling.": what is printed depends on the input through its bytes in small alone.
+use Rattle.std.specs.Prelude.{if◌then◌else◌}
 use Prim.Native.Nat.{ℕ}
 use mathlib.Core.Path.{◌≡◌, refl, ap, sym, ◌∙◌}
 use mathlib.Core.Bool.{Bool, true, false}
@@ -8,7 +9,6 @@ use lib.ListN.{length, length-map}
 use lib.Dec.{ltb, leb}
 use borrow.Author.Tests.{leb-true}
 use Rattle.model.specs.Answers.{Outcome, result, refused}
-use Rattle.model.specs.Choice.{if◌then◌else◌}
 use Rattle.model.specs.Names.{is_letter, lower, Line, lines_of, names_then}
 use Rattle.model.specs.Number.{number_outcome}
 use Rattle.model.specs.Term.{Scan, passes, breaks_at, due, scan, term_then}

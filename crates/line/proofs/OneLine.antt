@@ -1,4 +1,5 @@
 -- "prints one line for each": with any table and names list, each answer is one line. Assumes nothing.
+use Rattle.std.specs.Prelude.{if◌then◌else◌}
 use Prim.Native.Nat.{ℕ, zero, suc, ◌-◌}
 use mathlib.Core.Path.{◌≡◌, refl, ap, ◌∙◌}
 use mathlib.Core.Bool.{Bool, true, false, not}
@@ -8,7 +9,6 @@ use lib.ListN.{length, get_or}
 use lib.Dec.{eqb, ltb}
 use borrow.Author.Tests.{ne_eqb}
 use Rattle.model.specs.Answers.{Outcome, result, refused}
-use Rattle.model.specs.Choice.{if◌then◌else◌}
 use Rattle.model.specs.Text.{ascii}
 use Rattle.model.specs.Tree.{Forest, empty, node}
 use Rattle.model.specs.Names.{Line, joined, lines_of, no_line, name_of}

@@ -1,4 +1,5 @@
 -- Laws of bytes that are alike, and of names that are equal.
+use Rattle.std.specs.Prelude.{if◌then◌else◌}
 use Prim.Native.Nat.{ℕ, ◌+◌, ◌≤◌}
 use mathlib.Core.Path.{◌≡◌, refl, ap, sym, ◌∙◌}
 use mathlib.Core.Bool.{Bool, true, false, ◌&&◌, ◌||◌}
@@ -8,7 +9,6 @@ use native.Mathlib.Omega.{arith}
 use lib.ListN.{length-map}
 use lib.Dec.{eqb, leb}
 use borrow.Author.Tests.{eqb-true, eq-eqb, le-leb}
-use Rattle.model.specs.Choice.{if◌then◌else◌}
 use Rattle.model.specs.Table.{same_by, same_list}
 use Rattle.model.specs.Names.{between, is_letter, is_name_byte, all_name_bytes, is_name, lower, alike, same_name, EachAlike}
 use Rattle.model.proofs.Choice.{if_no, or_false, or_left, or_right, and_both, not_both, is_false}

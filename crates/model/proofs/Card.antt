@@ -1,4 +1,5 @@
 -- The card: each operation refuses by its numbers, and by no others; and the withdrawn 8.
+use Rattle.std.specs.Prelude.{if◌then◌else◌}
 use Prim.Native.Nat.{ℕ, ◌≤◌, ◌<◌}
 use mathlib.Core.Path.{◌≡◌, refl, ap, sym, ◌∙◌}
 use mathlib.Core.Bool.{Bool, true, false, ◌||◌}
@@ -9,7 +10,7 @@ use native.Mathlib.Omega.{arith}
 use lib.Dec.{eqb, ltb}
 use borrow.Author.Tests.{eqb-true, eqb-false, le-ltb}
 use Rattle.model.specs.Answers.{Outcome, result, refused}
-use Rattle.model.specs.Choice.{if◌then◌else◌, first_faulty}
+use Rattle.model.specs.Choice.{first_faulty}
 use Rattle.model.specs.Table.{Table, how_many_rows, how_many_entries}
 use Rattle.model.specs.Check.{row_ground, accepting_ground, check_within, check_outcome}
 use Rattle.model.specs.Limits.{BeyondLimits, nine, ten}

@@ -1,4 +1,5 @@
 -- Each refusal of a table has its ground, its number and its place; where no ground holds, the answer is the total.
+use Rattle.std.specs.Prelude.{if◌then◌else◌}
 use Prim.Native.Nat.{ℕ, suc, ◌+◌, ◌-◌, ◌≤◌, ◌<◌}
 use mathlib.Core.Path.{◌≡◌, refl, sym, subst, ◌∙◌}
 use mathlib.Core.Bool.{Bool, true, false, not, ◌&&◌, ◌||◌}
@@ -11,7 +12,7 @@ use lib.ListN.{length, get_or}
 use lib.Dec.{eqb, ltb, leb}
 use borrow.Author.Tests.{ltb-true, ltb-false, leb-true, eqb-true, not-true, lt-ltb, le-ltb, le-leb, eq-eqb}
 use Rattle.model.specs.Answers.{Outcome, result, refused}
-use Rattle.model.specs.Choice.{if◌then◌else◌, first_faulty, any_below}
+use Rattle.model.specs.Choice.{first_faulty, any_below}
 use Rattle.model.specs.Table.{Row, Table, arg_count_at, row_start, row_numbered, how_many_rows, row_is, how_many_entries, state_at, table_of}
 use Rattle.model.specs.Count.{count, total, longest}
 use Rattle.model.specs.Tree.{Tree}

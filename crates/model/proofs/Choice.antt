@@ -1,4 +1,5 @@
 -- Laws of choosing: by a test, by the first that is faulty, and of some number below another having a property.
+use Rattle.std.specs.Prelude.{if◌then◌else◌}
 use Prim.Native.Nat.{ℕ, zero, suc, ◌+◌, ◌<◌, ◌≤◌}
 use mathlib.Core.Path.{◌≡◌, refl, sym, ap, ◌∙◌}
 use mathlib.Core.Bool.{Bool, true, false, ◌&&◌, ◌||◌}
@@ -8,7 +9,7 @@ use native.Mathlib.Nat.{not-suc-le-zero, le_of_suc-le-suc, eq-or-lt_of_le, eq-ze
 use lib.Dec.{ltb}
 use borrow.Author.Tests.{ltb-true, ltb-false}
 use Rattle.model.specs.Answers.{Outcome, result, refused}
-use Rattle.model.specs.Choice.{if◌then◌else◌, refuse_on, first_faulty, any_below}
+use Rattle.model.specs.Choice.{refuse_on, first_faulty, any_below}
 
 pub if_yes : {A : Type 0} (b : Bool) (x y : A) → b ≡ true → (if b then x else y) ≡ x
 if_yes b x y e = rw e

@@ -1,4 +1,5 @@
 -- Laws of sums, products and largest entries, of lists grown state by state, and so of counts and longest trees.
+use Rattle.std.specs.Prelude.{if◌then◌else◌}
 use Prim.Native.Nat.{ℕ, zero, suc, ◌+◌, ◌*◌, ◌≤◌, ◌<◌, max}
 use mathlib.Core.Path.{◌≡◌, refl, ap, sym, ◌∙◌}
 use mathlib.Core.Bool.{Bool, true, false, ◌&&◌}
@@ -11,7 +12,6 @@ use lib.ListN.{length, get_or, take, length-append, get_or-append, get_or-eq_def
 use lib.Seq.{get_or_at}
 use lib.Dec.{eqb, ltb}
 use borrow.Author.Tests.{eqb-true, eq-eqb, ne_eqb, ltb-true, lt-ltb}
-use Rattle.model.specs.Choice.{if◌then◌else◌}
 use Rattle.model.specs.Table.{Row, Table, no_row, IsRow}
 use Rattle.model.specs.Count.{sum, product, row_counts, weight, state_counts, Counts, grow, count, total, largest, row_longest, state_longest, longest}
 use Rattle.model.proofs.Choice.{and_true}

@@ -1,4 +1,5 @@
 -- The pairing of trees and numbers (demand 3): for a table that passes its check, what numbering and writing answer.
+use Rattle.std.specs.Prelude.{if◌then◌else◌}
 use Prim.Native.Nat.{ℕ, ◌≤◌, ◌<◌}
 use mathlib.Core.Path.{◌≡◌, refl, ap, sym, ◌∙◌, subst}
 use mathlib.Core.List.{List, ◌++◌, map}
@@ -9,7 +10,6 @@ use lib.Dec.{ltb}
 use mathlib.Core.Bool.{not}
 use borrow.Author.Tests.{lt-ltb, le-ltb, ltb-false}
 use Rattle.model.specs.Answers.{Outcome, result, refused, lent_after}
-use Rattle.model.specs.Choice.{if◌then◌else◌}
 use Rattle.model.specs.Table.{Table, table_of}
 use Rattle.model.specs.Tree.{Forest, Tree, serial, SymbolsInRange, WellFormed}
 use Rattle.model.specs.Reach.{Reach, none, row, Accepted}

@@ -1,4 +1,5 @@
 -- "Reading takes either spelling.": what is answered depends on a text, and on a names list, through its bytes in small alone.
+use Rattle.std.specs.Prelude.{if◌then◌else◌}
 use Prim.Native.Nat.{ℕ, zero, suc, ◌-◌}
 use mathlib.Core.Path.{◌≡◌, refl, ap, sym, ◌∙◌}
 use mathlib.Core.Bool.{Bool, true, false, ◌&&◌, ◌||◌, not}
@@ -7,7 +8,7 @@ use lib.ListN.{length, get_or, drop, length-map, get_or-map}
 use lib.Dec.{eqb, ltb, leb}
 use borrow.Author.Tests.{eqb-true, eqb-false, ne_eqb}
 use Rattle.model.specs.Answers.{Outcome, result, refused, lent_after}
-use Rattle.model.specs.Choice.{if◌then◌else◌, first_faulty, any_below}
+use Rattle.model.specs.Choice.{first_faulty, any_below}
 use Rattle.model.specs.Tree.{Forest, empty, node, serial}
 use Rattle.model.specs.Names.{is_letter, is_name_byte, is_name, lower, alike, same_name, EachAlike, Line, joined, lines_of, no_line, line_at, how_many_names, name_of, line_with, symbol_of, is_listed, line_ground, names_then}
 use Rattle.model.specs.Entries.{tree_then, tree_from}

@@ -1,5 +1,6 @@
 -- The form of a tree's entries: those taken are the well-formed trees, 13 has the place that document 01 says, and a well-formed list is
 -- read as its one tree.
+use Rattle.std.specs.Prelude.{if◌then◌else◌}
 use Prim.Native.Nat.{ℕ, zero, suc, ◌+◌, ◌-◌, ◌*◌, ◌≤◌, ◌<◌}
 use mathlib.Core.Path.{◌≡◌, refl, ap, sym, ◌∙◌}
 use mathlib.Core.Bool.{Bool, true, false, ◌&&◌, ◌||◌}
@@ -12,7 +13,7 @@ use lib.Seq.{take-length, take-append-le, take-take, get_or-take, length-take-le
 use lib.Dec.{eqb, ltb}
 use borrow.Author.Tests.{ltb-true, ltb-false, lt-ltb, le-ltb, eqb-true, eqb-false, ne_eqb}
 use Rattle.model.specs.Answers.{Outcome, result, refused}
-use Rattle.model.specs.Choice.{if◌then◌else◌, first_faulty}
+use Rattle.model.specs.Choice.{first_faulty}
 use Rattle.model.specs.Tree.{Forest, Tree, empty, node, only, serial_forest, serial, SymbolsInRange, WellFormed}
 use Rattle.model.specs.Entries.{open_after, open_at, entry_ground, ends_too_soon, form_then, tree_then, levels_of, first_tree, tree_from}
 use Rattle.model.specs.Place.{CanGoOn, StopsAt}

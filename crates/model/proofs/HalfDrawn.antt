@@ -1,4 +1,5 @@
 -- Request (c) changes the check only where it refused by 9 or 10 at an unused state, and values are formed in used states only.
+use Rattle.std.specs.Prelude.{if◌then◌else◌}
 use Prim.Native.Nat.{ℕ, ◌<◌}
 use mathlib.Core.Path.{◌≡◌, refl, sym, ap, ◌∙◌}
 use mathlib.Core.Bool.{Bool, true, false}
@@ -9,7 +10,6 @@ use native.Mathlib.Nat.{not-suc-le-zero}
 use lib.ListN.{get_or}
 use lib.Dec.{ltb}
 use Rattle.model.specs.Answers.{Outcome, refused}
-use Rattle.model.specs.Choice.{if◌then◌else◌}
 use Rattle.model.specs.Table.{Table, table_of}
 use Rattle.model.specs.Tree.{Tree}
 use Rattle.model.specs.Reach.{none, row, Reaches}

@@ -1,4 +1,5 @@
 -- What the refusals 9, 10 and 11 say of trees, in tables that they turn away: how many trees reach a state, and how long the longest is.
+use Rattle.std.specs.Prelude.{if◌then◌else◌}
 use Prim.Native.Nat.{ℕ, zero, suc, ◌≤◌, ◌<◌}
 use mathlib.Core.Path.{◌≡◌, refl, sym, subst}
 use mathlib.Core.Bool.{Bool, true, false}
@@ -9,7 +10,6 @@ use native.Mathlib.Nat.{eq-zero-or-pos}
 use lib.ListN.{length, get_or}
 use lib.Dec.{ltb}
 use borrow.Author.Tests.{ltb-true, ltb-false}
-use Rattle.model.specs.Choice.{if◌then◌else◌}
 use Rattle.model.specs.Table.{Table}
 use Rattle.model.specs.Tree.{Tree, serial}
 use Rattle.model.specs.Reach.{Reaches, Accepted}

@@ -1,5 +1,6 @@
 -- In a term each run of name bytes is one of its names: where no name of it is refused, every name of it is listed, and back. Then the
 -- symbols that have names, and how long the text of a tree is.
+use Rattle.std.specs.Prelude.{if◌then◌else◌}
 use Prim.Native.Nat.{ℕ, zero, suc, ◌+◌, ◌*◌, ◌≤◌, ◌<◌, suc-le-suc}
 use mathlib.Core.Path.{◌≡◌, refl, ap, sym, subst, ◌∙◌}
 use mathlib.Core.Bool.{Bool, true, false, not, ◌&&◌, and_assoc, and-true as and_yes}
@@ -8,7 +9,6 @@ use native.Mathlib.Omega.{arith}
 use native.Mathlib.Nat.{not-suc-le-zero, le_of_suc-le-suc}
 use lib.ListN.{length, get_or, length-append}
 use borrow.Author.Tests.{ltb-false, le-ltb, not-false}
-use Rattle.model.specs.Choice.{if◌then◌else◌}
 use Rattle.model.specs.Names.{is_name_byte, all_name_bytes, is_name, how_many_names, name_of, is_listed}
 use Rattle.model.specs.Tree.{Forest, Tree, empty, node, only, serial_forest, serial, SymbolsInRange, WellFormed}
 use Rattle.model.specs.Term.{Terms, Term, none, term, alone, text_of_terms, text_of, AllNames, IsTerm, run, name_begins, name_at}

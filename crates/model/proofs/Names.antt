@@ -1,5 +1,6 @@
 -- Laws of names lists: which are taken, the names in them, and symbols and names there and back. When two names are equal is used only
 -- through the laws of Alike.
+use Rattle.std.specs.Prelude.{if◌then◌else◌}
 use Prim.Native.Nat.{ℕ, zero, suc, ◌+◌, ◌-◌, ◌≤◌, ◌<◌}
 use mathlib.Core.Path.{◌≡◌, refl, ap, sym, ◌∙◌}
 use mathlib.Core.Bool.{Bool, true, false, not, ◌||◌}
@@ -12,7 +13,7 @@ use lib.ListN.{length, get_or, length-map}
 use lib.Dec.{eqb, ltb, leb}
 use borrow.Author.Tests.{eqb-true, ltb-true, lt-ltb, leb-false, lt-leb, eqb-false, ne_eqb, not-false}
 use Rattle.model.specs.Answers.{Outcome, result, refused}
-use Rattle.model.specs.Choice.{if◌then◌else◌, any_below}
+use Rattle.model.specs.Choice.{any_below}
 use Rattle.model.specs.Names.{all_name_bytes, is_name, same_name, bytes_of_names, IsNamesList, Line, joined, lines_of, no_line, line_at, how_many_names, name_of, line_with, symbol_of, is_listed, line_ground, names_then}
 use Rattle.model.proofs.Choice.{if_no, if_result, if_zero, one_place, or_false, not_both, no_fault, no_fault_back, any_false, any_none}
 use Rattle.model.proofs.Counting.{get_d_map}

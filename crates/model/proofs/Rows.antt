@@ -1,4 +1,5 @@
 -- Laws of rows packed in one list: where they begin, how many there are, and that they are the list.
+use Rattle.std.specs.Prelude.{if◌then◌else◌}
 use Prim.Native.Nat.{ℕ, zero, suc, ◌+◌, ◌*◌, ◌≤◌, ◌<◌}
 use mathlib.Core.Path.{◌≡◌, refl, ap, sym, ◌∙◌}
 use mathlib.Core.Bool.{Bool, true, false}
@@ -10,7 +11,6 @@ use lib.ListN.{length, get_or, take, drop, length-append, length-drop, get_or-ap
 use lib.Seq.{get_or_at, take-add, take_all, drop-cons, length-take-le, get_or-append_seam, get_or-append-add, drop-append-add, take-append_seam, split_at, take-suc, take-length, ext_get_or}
 use lib.Dec.{eqb, ltb}
 use borrow.Author.Tests.{ltb-true, ltb-false, lt-ltb, le-ltb, eqb-true, eq-eqb}
-use Rattle.model.specs.Choice.{if◌then◌else◌}
 use Rattle.model.specs.Table.{Row, no_row, pack, arg_count_at, args_at, row_at, row_start, row_numbered, how_many, how_many_rows, first_rows, rows_of, same_by, same_list, row_is, Whole}
 use Rattle.model.proofs.Choice.{First, nowhere, first, first_of, and_true, and_both}
 use Rattle.model.proofs.Lists.{same_self}

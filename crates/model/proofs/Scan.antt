@@ -1,4 +1,5 @@
 -- Reading a text: the scan accepts just the terms, its place is document 01's, and the term is read back from its text.
+use Rattle.std.specs.Prelude.{if◌then◌else◌}
 use Prim.Native.Nat.{ℕ, zero, suc, ◌+◌, ◌≤◌, ◌<◌}
 use mathlib.Core.Path.{◌≡◌, refl, ap, sym, ◌∙◌}
 use mathlib.Core.Bool.{Bool, true, false}
@@ -10,7 +11,6 @@ use lib.ListN.{length, get_or, take}
 use lib.Dec.{eqb, ltb, eqb-suc-zero}
 use borrow.Author.Tests.{eqb-true, ltb-true, lt-ltb}
 use Rattle.model.specs.Answers.{Outcome, result}
-use Rattle.model.specs.Choice.{if◌then◌else◌}
 use Rattle.model.specs.Names.{is_letter, is_name_byte, all_name_bytes, is_name}
 use Rattle.model.specs.Term.{Terms, none, term, Term, alone, in_brackets, after_comma, text_of_terms, text_of, AllNames, IsTerm, ScanState, due, in_name, closed, ScanStep, goes_on, stops, after_term, step, may_end, Scan, passes, breaks_at, onward, scan, break_then, term_then, Seen, before, seen_from, seen_term, term_from}
 use Rattle.model.specs.Place.{StopsAt}

@@ -1,4 +1,5 @@
 -- Request (h): what passes has 64 bits, and the check answers another thing only where it refused by 9 or 11 what is within the larger limit.
+use Rattle.std.specs.Prelude.{if◌then◌else◌}
 use Prim.Native.Nat.{ℕ, ◌≤◌, ◌<◌}
 use mathlib.Core.Path.{◌≡◌, refl, sym, ap, ◌∙◌}
 use mathlib.Core.Bool.{Bool, true, false}
@@ -10,7 +11,6 @@ use native.Mathlib.Nat.{lt_of_not-le}
 use lib.Dec.{ltb}
 use borrow.Author.Tests.{lt-ltb, le-ltb}
 use Rattle.model.specs.Answers.{Outcome, result, refused}
-use Rattle.model.specs.Choice.{if◌then◌else◌}
 use Rattle.model.specs.Table.{Table, table_of}
 use Rattle.model.specs.Count.{count, total, longest}
 use Rattle.model.specs.Used.{Used, is_used}

@@ -1,4 +1,5 @@
 -- Laws of the list's spelling: of a name, of a text, and of the text of a term.
+use Rattle.std.specs.Prelude.{if◌then◌else◌}
 use Prim.Native.Nat.{ℕ, zero, suc, ◌+◌, ◌-◌, ◌≤◌, ◌<◌}
 use mathlib.Core.Path.{◌≡◌, refl, ap, sym, subst, ◌∙◌}
 use mathlib.Core.Bool.{Bool, true, false, not, ◌&&◌}
@@ -8,7 +9,6 @@ use native.Mathlib.Nat.{not-suc-le-zero, le_of_suc-le-suc}
 use lib.ListN.{length, get_or, drop, get_or-map}
 use lib.Seq.{drop-append-add}
 use borrow.Author.Tests.{not-false}
-use Rattle.model.specs.Choice.{if◌then◌else◌}
 use Rattle.model.specs.Table.{same_by}
 use Rattle.model.specs.Names.{is_name_byte, all_name_bytes, is_name, lower, alike, same_name, line_at, how_many_names, name_of, symbol_of, is_listed}
 use Rattle.model.specs.Term.{Terms, none, term, alone, text_of_terms, text_of, AllNames, IsTerm, run, name_begins, name_at}

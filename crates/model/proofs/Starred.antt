@@ -1,4 +1,5 @@
 -- The starred facts of "The paper's own table", by computation: a single claim over a single list.
+use Rattle.std.specs.Prelude.{if◌then◌else◌}
 use Prim.Native.Nat.{ℕ, ◌+◌}
 use Prim.Native.String.{String}
 use mathlib.Core.Path.{◌≡◌, refl, ap, sym, ◌∙◌}
@@ -7,7 +8,7 @@ use lib.ListN.{length, get_or, take, replicate}
 use lib.Dec.{ltb}
 use mathlib.Core.List.{List, [], ◌∷◌, map, flatten}
 use Rattle.model.specs.Answers.{Outcome, result, refused}
-use Rattle.model.specs.Choice.{if◌then◌else◌, refuse_on, first_faulty, any_below}
+use Rattle.model.specs.Choice.{refuse_on, first_faulty, any_below}
 use Rattle.model.specs.Table.{Row, Table, no_row, pack, table_of, row_at, how_many, how_many_rows, first_rows, rows_of, same_by, row_is}
 use Rattle.model.specs.Tree.{Tree, serial_forest, serial}
 use Rattle.model.specs.Reach.{target_of, row_with, states_of, row_of, state_of, entry_of}

@@ -1,4 +1,5 @@
 -- For a sound table the functions for rows and states say what reaching and accepting say.
+use Rattle.std.specs.Prelude.{if◌then◌else◌}
 use Prim.Native.Nat.{ℕ, zero, suc, ◌≤◌, ◌<◌, suc-le-suc}
 use mathlib.Core.Path.{◌≡◌, refl, ap, sym, ◌∙◌, subst}
 use mathlib.Core.Bool.{Bool, true, false}
@@ -10,7 +11,6 @@ use native.Mathlib.Nat.{not-suc-le-zero, le_of_suc-le-suc, lt_of_not-le}
 use lib.ListN.{length, get_or, get_or-eq_default}
 use lib.Dec.{eqb}
 use borrow.Author.Tests.{eqb-true, eqb-false}
-use Rattle.model.specs.Choice.{if◌then◌else◌}
 use Rattle.model.specs.Table.{Row, Table, IsRow, row_is, no_row}
 use Rattle.model.specs.Tree.{Forest, Tree, empty, node, only}
 use Rattle.model.specs.Reach.{Reach, none, row, Reaches, Accepted, row_with, target_of, states_of, state_of, entry_of}

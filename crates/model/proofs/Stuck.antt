@@ -1,4 +1,5 @@
 -- Refusal 14: trees that the table does not accept, and its place.
+use Rattle.std.specs.Prelude.{if◌then◌else◌}
 use Prim.Native.Nat.{ℕ, zero, suc, ◌+◌, ◌-◌, ◌≤◌, ◌<◌}
 use mathlib.Core.Path.{◌≡◌, refl, ap, sym, ◌∙◌, subst}
 use mathlib.Core.Bool.{Bool, true, false}
@@ -12,7 +13,6 @@ use lib.Seq.{take_at, drop_at, drop-append-add, get_or-append-add, get_or_at}
 use lib.Dec.{ltb}
 use borrow.Author.Tests.{ltb-true, ltb-false, lt-ltb, not-false}
 use Rattle.model.specs.Answers.{Outcome, result, refused}
-use Rattle.model.specs.Choice.{if◌then◌else◌}
 use Rattle.model.specs.Table.{Table}
 use Rattle.model.specs.Tree.{Forest, Tree, empty, node, only, serial_forest, serial, SymbolsInRange}
 use Rattle.model.specs.Reach.{Reach, none, row, Reaches, Accepted, target_of, states_of, row_of, state_of, entry_of}

@@ -1,5 +1,6 @@
 -- Tables checked, trees numbered and written, by computation against "The operations and what they turn away": each refusal from 1 to 16
 -- (but the withdrawn 8) with its place, and which of two comes first.
+use Rattle.std.specs.Prelude.{if◌then◌else◌}
 use Prim.Native.Nat.{ℕ, zero, suc, ◌+◌, ◌≤◌, ◌<◌}
 use mathlib.Core.Path.{◌≡◌, refl, ap, ◌∙◌}
 use mathlib.Core.Bool.{true, false, ◌&&◌, ◌||◌, and-false}
@@ -9,7 +10,7 @@ use lib.ListN.{length, take, replicate, length-replicate, get_or-replicate}
 use lib.Dec.{eqb, ltb}
 use borrow.Author.Tests.{lt-ltb, le-ltb, ne_eqb}
 use Rattle.model.specs.Answers.{Outcome, result, refused}
-use Rattle.model.specs.Choice.{if◌then◌else◌, refuse_on, first_faulty, any_below}
+use Rattle.model.specs.Choice.{refuse_on, first_faulty, any_below}
 use Rattle.model.specs.Table.{row_start, how_many, how_many_rows, first_rows, rows_of, same_by, row_is}
 use Rattle.model.specs.Tree.{serial_forest, serial}
 use Rattle.model.specs.Reach.{row_with, states_of, entry_of}

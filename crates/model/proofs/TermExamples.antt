@@ -1,5 +1,6 @@
 -- Terms read and written, checked by computation against "The operations and what they turn away": answers, lists, the order of the
 -- refusals, and limits from both sides; 21 at its real size by the laws. Texts stand as texts, so that no byte's number is taken on trust.
+use Rattle.std.specs.Prelude.{if◌then◌else◌}
 use Prim.Native.Nat.{ℕ, zero, suc, ◌+◌, ◌*◌, ◌/◌, ◌%◌}
 use mathlib.Core.Path.{◌≡◌, refl, ap, sym, ◌∙◌}
 use mathlib.Core.Bool.{Bool, false, ◌&&◌, not}
@@ -8,7 +9,7 @@ use native.Mathlib.Omega.{arith}
 use lib.ListN.{length, get_or, replicate, length-append}
 use lib.Dec.{eqb}
 use Rattle.model.specs.Answers.{Outcome, result, refused}
-use Rattle.model.specs.Choice.{if◌then◌else◌, refuse_on, first_faulty, any_below}
+use Rattle.model.specs.Choice.{refuse_on, first_faulty, any_below}
 use Rattle.model.specs.Text.{ascii}
 use Rattle.model.specs.Table.{same_by}
 use Rattle.model.specs.Tree.{serial_forest, serial}

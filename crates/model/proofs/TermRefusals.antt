@@ -1,4 +1,5 @@
 -- A refusal of reading or writing a term is given exactly where its ground holds, with its number and at its place.
+use Rattle.std.specs.Prelude.{if◌then◌else◌}
 use Prim.Native.Nat.{ℕ, zero, suc, ◌+◌, ◌≤◌, ◌<◌, min}
 use mathlib.Core.Path.{◌≡◌, refl, ap, sym, subst, ◌∙◌}
 use mathlib.Core.Bool.{Bool, true, false, not, ◌&&◌, ◌||◌}
@@ -11,7 +12,7 @@ use lib.Seq.{get_or-take, length-take-le, take-nil, take-take}
 use lib.Dec.{eqb, ltb, leb}
 use borrow.Author.Tests.{ltb-true, ltb-false, lt-ltb, le-ltb, eqb-true, eqb-false}
 use Rattle.model.specs.Answers.{Outcome, result, refused}
-use Rattle.model.specs.Choice.{if◌then◌else◌, first_faulty, any_below}
+use Rattle.model.specs.Choice.{first_faulty, any_below}
 use Rattle.model.specs.Tree.{WellFormed}
 use Rattle.model.specs.Names.{is_name_byte, all_name_bytes, is_name, same_name, IsNamesList, Line, joined, lines_of, no_line, line_at, how_many_names, is_listed, line_ground, names_then}
 use Rattle.model.specs.Entries.{form_then, tree_then}

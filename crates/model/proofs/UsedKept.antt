@@ -1,5 +1,6 @@
 -- Counts and longest trees kept to a ceiling on the way: each state's is right up to the ceiling, whatever the states below it had, and which states
 -- are used is the same.
+use Rattle.std.specs.Prelude.{if◌then◌else◌}
 use Prim.Native.Nat.{ℕ, zero, suc, ◌+◌, ◌*◌, ◌≤◌, ◌<◌, min, max}
 use mathlib.Core.Path.{◌≡◌, refl, ap, sym, ◌∙◌}
 use mathlib.Core.Bool.{Bool, true, false, ◌&&◌, ◌||◌}
@@ -11,7 +12,7 @@ use native.Mathlib.Nat.{mul-zero, mul_comm, le-mul_of_pos_right, min-eq_left, mi
 use lib.ListN.{length, get_or, take}
 use lib.Dec.{eqb, ltb}
 use borrow.Author.Tests.{lt-ltb, le-ltb}
-use Rattle.model.specs.Choice.{if◌then◌else◌, any_below}
+use Rattle.model.specs.Choice.{any_below}
 use Rattle.model.specs.Table.{Row, Table, no_row}
 use Rattle.model.specs.Count.{sum, product, row_counts, weight, state_counts, largest, row_longest, state_longest}
 use Rattle.model.specs.Value.{earlier_rows}

@@ -1,5 +1,6 @@
 -- Values and trees look only at the counts of used states: with 0 for the count of each unused state, an accepted tree has the same number, and
 -- a number below the total the same tree.
+use Rattle.std.specs.Prelude.{if◌then◌else◌}
 use Prim.Native.Nat.{ℕ, zero, suc, ◌+◌, ◌*◌, ◌-◌, ◌/◌, ◌%◌, ◌<◌}
 use mathlib.Core.Path.{◌≡◌, refl, ap, sym, ◌∙◌}
 use mathlib.Core.Bool.{Bool, true, false}
@@ -11,7 +12,6 @@ use lib.ListN.{length, get_or, take, length-map}
 use lib.Dec.{eqb, ltb}
 use borrow.Author.Tests.{eqb-true, ltb-true}
 use Rattle.model.specs.Answers.{Outcome, result, refused}
-use Rattle.model.specs.Choice.{if◌then◌else◌}
 use Rattle.model.specs.Table.{Row, Table, IsRow, no_row}
 use Rattle.model.specs.Tree.{Forest, Tree, node, only, serial}
 use Rattle.model.specs.Reach.{Reach, none, row, Reaches, Accepted, state_of, entry_of}

@@ -1,5 +1,6 @@
 -- The value of a tree in its state: values are below the state's count and go up in the order of trees, and the tree of a value reaches the
 -- state and has that value.
+use Rattle.std.specs.Prelude.{if◌then◌else◌}
 use Prim.Native.Nat.{ℕ, zero, suc, ◌+◌, ◌*◌, ◌-◌, ◌/◌, ◌%◌, ◌≤◌, ◌<◌, pred, suc-le-suc}
 use mathlib.Core.Path.{◌≡◌, refl, ap, sym, ◌∙◌}
 use mathlib.Core.Bool.{Bool, true, false}
@@ -10,7 +11,6 @@ use native.Mathlib.Nat.{div-add-mod', mod-lt, div-lt_iff_lt-mul, mul-div_cancel_
 use lib.ListN.{length, get_or, take, length-map, get_or-eq_default}
 use lib.Dec.{ltb}
 use borrow.Author.Tests.{ltb-true, ltb-false, lt-ltb, le-ltb}
-use Rattle.model.specs.Choice.{if◌then◌else◌}
 use Rattle.model.specs.Table.{Row, Table, IsRow, no_row}
 use Rattle.model.specs.Tree.{Forest, Tree, empty, node, only}
 use Rattle.model.specs.Reach.{Reach, none, row, Reaches, row_with, row_of}

@@ -1,9 +1,8 @@
 -- The desk's error card: by which numbers each operation refuses, and why 8 is no longer one of them. Assumes nothing: these are definitions.
-use Rattle.std.specs.Prelude.{ℕ, ◌≤◌, ◌<◌, ◌≡◌, Bool, true, ◌&&◌, ltb}
+use Rattle.std.specs.Prelude.{ℕ, ◌≤◌, ◌<◌, ◌≡◌, Bool, true, ◌&&◌, ltb, if◌then◌else◌}
 use mathlib.Core.List.{List, [], ◌∷◌, ◌++◌, Memᴰ}
 use Rattle.model.specs.declared.Kind.{Kind}
 use Rattle.model.specs.Answers.{Outcome, refused, kind_number}
-use Rattle.model.specs.Choice.{if◌then◌else◌}
 use Rattle.model.specs.Table.{how_many_entries, state_at, table_of}
 use Rattle.model.specs.Check.{all_below, lists_then, counts_outcome, count_limit, check_outcome}
 use Rattle.model.specs.CheckRefusals.{FaultlessRows}

@@ -1,7 +1,7 @@
 -- "Checking a table gives the total": the ordered choice of refusals 1 to 7 and 9 to 11. Assumes nothing: these are definitions.
-use Rattle.std.specs.Prelude.{ℕ, ◌-◌, ◌≡◌, Bool, true, ◌&&◌, ◌||◌, not, List, [], ◌∷◌, length, eqb, ltb, leb}
+use Rattle.std.specs.Prelude.{ℕ, ◌-◌, ◌≡◌, Bool, true, ◌&&◌, ◌||◌, not, List, [], ◌∷◌, length, eqb, ltb, leb, if◌then◌else◌}
 use Rattle.model.specs.Answers.{Outcome, result, refused}
-use Rattle.model.specs.Choice.{if◌then◌else◌, first_faulty, any_below}
+use Rattle.model.specs.Choice.{first_faulty, any_below}
 use Rattle.model.specs.Table.{Row, Table, row_start, how_many_rows, row_numbered, arg_count_at, row_is, how_many_entries, state_at, table_of}
 use Rattle.model.specs.Count.{count, total, longest}
 use Rattle.model.specs.Used.{is_used}

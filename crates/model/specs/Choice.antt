@@ -2,11 +2,6 @@
 use Rattle.std.specs.Prelude.{ℕ, zero, suc, Bool, true, false, ◌||◌}
 use Rattle.model.specs.Answers.{Outcome, refused}
 
-infixr 5 if◌then◌else◌
-abbrev pub if◌then◌else◌ : {A : Type 0} → Bool → A → A → A
-if true then a else b = a
-if false then a else b = b
-
 -- a ground is given by its refusal's number; 0 says that none holds
 unfoldable pub refuse_on : (number place : ℕ) → Outcome → Outcome
 refuse_on zero place otherwise = otherwise

@@ -1,6 +1,5 @@
 -- "Counting and order": counts of rows and states, the total, and the longest tree. Assumes nothing: these are definitions.
-use Rattle.std.specs.Prelude.{ℕ, zero, suc, ◌+◌, ◌*◌, ◌≤◌, ◌<◌, max, ◌≡◌, ◌&&◌, List, [], ◌∷◌, ◌++◌, map, length, get_or, eqb, ltb}
-use Rattle.model.specs.Choice.{if◌then◌else◌}
+use Rattle.std.specs.Prelude.{ℕ, zero, suc, ◌+◌, ◌*◌, ◌≤◌, ◌<◌, max, ◌≡◌, ◌&&◌, List, [], ◌∷◌, ◌++◌, map, length, get_or, eqb, ltb, if◌then◌else◌}
 use Rattle.model.specs.Table.{Row, Table}
 use Rattle.model.specs.Tree.{Tree, serial}
 use Rattle.model.specs.Reach.{Reaches}

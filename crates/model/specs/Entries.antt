@@ -1,7 +1,7 @@
 -- Reading a tree entry by entry, and refusals 12 and 13. Assumes nothing: these are definitions.
-use Rattle.std.specs.Prelude.{ℕ, zero, suc, ◌-◌, Bool, ◌&&◌, ◌||◌, List, [], ◌∷◌, length, get_or, take, eqb, ltb}
+use Rattle.std.specs.Prelude.{ℕ, zero, suc, ◌-◌, Bool, ◌&&◌, ◌||◌, List, [], ◌∷◌, length, get_or, take, eqb, ltb, if◌then◌else◌}
 use Rattle.model.specs.Answers.{Outcome, refused}
-use Rattle.model.specs.Choice.{if◌then◌else◌, first_faulty}
+use Rattle.model.specs.Choice.{first_faulty}
 use Rattle.model.specs.Table.{same_list}
 use Rattle.model.specs.Tree.{Forest, Tree, empty, node, serial}
 

@@ -1,7 +1,7 @@
 -- Names, when two are equal, names lists, and refusal 17. Assumes nothing: these are definitions.
-use Rattle.std.specs.Prelude.{ℕ, suc, ◌+◌, ◌-◌, ◌≤◌, ◌<◌, ◌≡◌, Bool, true, false, ◌&&◌, ◌||◌, not, List, [], ◌∷◌, ◌++◌, length, get_or, eqb, ltb, leb}
+use Rattle.std.specs.Prelude.{ℕ, suc, ◌+◌, ◌-◌, ◌≤◌, ◌<◌, ◌≡◌, Bool, true, false, ◌&&◌, ◌||◌, not, List, [], ◌∷◌, ◌++◌, length, get_or, eqb, ltb, leb, if◌then◌else◌}
 use Rattle.model.specs.Answers.{Outcome, refused}
-use Rattle.model.specs.Choice.{if◌then◌else◌, first_faulty, any_below}
+use Rattle.model.specs.Choice.{first_faulty, any_below}
 use Rattle.model.specs.Table.{same_by}
 
 -- from low to high, both taken in

@@ -1,7 +1,6 @@
 -- "Numbering a tree gives its number.": the check, 12 and 13, then 14. Assumes nothing: these are definitions.
-use Rattle.std.specs.Prelude.{ℕ, suc, ◌+◌, ◌-◌, Bool, not, List, length}
+use Rattle.std.specs.Prelude.{ℕ, suc, ◌+◌, ◌-◌, Bool, not, List, length, if◌then◌else◌}
 use Rattle.model.specs.Answers.{Outcome, result, refused}
-use Rattle.model.specs.Choice.{if◌then◌else◌}
 use Rattle.model.specs.Table.{Table, table_of}
 use Rattle.model.specs.Tree.{Forest, Tree, empty, node, only, serial_forest, serial}
 use Rattle.model.specs.Reach.{target_of, row_of, state_of, is_among}

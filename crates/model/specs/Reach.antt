@@ -1,6 +1,5 @@
 -- "Counting and order": reaching and accepting, for trees of any length. Assumes nothing: these are definitions.
-use Rattle.std.specs.Prelude.{ℕ, suc, ◌<◌, List, [], ◌∷◌, length, get_or, Bool, eqb, ltb}
-use Rattle.model.specs.Choice.{if◌then◌else◌}
+use Rattle.std.specs.Prelude.{ℕ, suc, ◌<◌, List, [], ◌∷◌, length, get_or, Bool, eqb, ltb, if◌then◌else◌}
 use Rattle.model.specs.Table.{Row, Table, IsRow, row_is}
 use Rattle.model.specs.Tree.{Forest, Tree, empty, node, only}
 

@@ -1,7 +1,6 @@
 -- The list's spelling of a name and of a text, and what is answered to either spelling (request (a)). Assumes nothing: these are definitions.
-use Rattle.std.specs.Prelude.{ℕ, ◌<◌, ◌≡◌, Bool, true, false, ◌↔◌, List, [], ◌∷◌, ◌++◌, length}
+use Rattle.std.specs.Prelude.{ℕ, ◌<◌, ◌≡◌, Bool, true, false, ◌↔◌, List, [], ◌∷◌, ◌++◌, length, if◌then◌else◌}
 use Rattle.model.specs.Answers.{result}
-use Rattle.model.specs.Choice.{if◌then◌else◌}
 use Rattle.model.specs.Names.{is_name_byte, EachAlike, name_of, symbol_of, is_listed}
 use Rattle.model.specs.Term.{run, name_begins, name_at}
 use Rattle.model.specs.TermOperations.{bytes_of, name_ground, read_term_outcome, write_term_outcome, read_term_list, write_term_list}

@@ -1,6 +1,5 @@
 -- "The lent lists": tables, and rows packed in one list. Assumes nothing: these are definitions.
-use Rattle.std.specs.Prelude.{ℕ, zero, suc, ◌+◌, ◌<◌, ◌≤◌, ◌≡◌, Bool, true, false, ◌&&◌, List, [], ◌∷◌, ◌++◌, length, get_or, take, drop, eqb, ltb}
-use Rattle.model.specs.Choice.{if◌then◌else◌}
+use Rattle.std.specs.Prelude.{ℕ, zero, suc, ◌+◌, ◌<◌, ◌≤◌, ◌≡◌, Bool, true, false, ◌&&◌, List, [], ◌∷◌, ◌++◌, length, get_or, take, drop, eqb, ltb, if◌then◌else◌}
 
 -- "A row is: symbol (1 to 255), target state, argument count (0 to 16), then that many argument states."
 -- (a transition of the automaton; its arity is the length of its arguments)

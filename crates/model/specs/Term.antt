@@ -1,7 +1,6 @@
 -- Terms: their grammar, the text of a term, and where a text stops being one. Assumes nothing: these are definitions.
-use Rattle.std.specs.Prelude.{ℕ, zero, suc, ◌≡◌, Bool, true, false, ◌&&◌, not, List, [], ◌∷◌, ◌++◌, get_or, drop, eqb, ltb}
+use Rattle.std.specs.Prelude.{ℕ, zero, suc, ◌≡◌, Bool, true, false, ◌&&◌, not, List, [], ◌∷◌, ◌++◌, get_or, drop, eqb, ltb, if◌then◌else◌}
 use Rattle.model.specs.Answers.{Outcome, refused}
-use Rattle.model.specs.Choice.{if◌then◌else◌}
 use Rattle.model.specs.Table.{same_list}
 use Rattle.model.specs.Names.{is_letter, is_name_byte, is_name}
 

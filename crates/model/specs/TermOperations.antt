@@ -1,8 +1,8 @@
 -- "Reading a term" and "Writing a term": the ordered choices of refusals, and what the lent list then holds. Assumes nothing: these are
 -- definitions.
-use Rattle.std.specs.Prelude.{ℕ, ◌≡◌, true, ◌&&◌, not, List, length, get_or, ltb}
+use Rattle.std.specs.Prelude.{ℕ, ◌≡◌, true, ◌&&◌, not, List, length, get_or, ltb, if◌then◌else◌}
 use Rattle.model.specs.Answers.{Outcome, result, refused, lent_after}
-use Rattle.model.specs.Choice.{if◌then◌else◌, first_faulty}
+use Rattle.model.specs.Choice.{first_faulty}
 use Rattle.model.specs.Tree.{Forest, Tree, empty, node, serial}
 use Rattle.model.specs.Names.{name_of, symbol_of, is_listed, how_many_names, names_then}
 use Rattle.model.specs.Entries.{tree_then, tree_from}

@@ -1,7 +1,6 @@
 -- Why reading and writing a term are refused: by which number, and at which place. Assumes nothing: these are definitions.
-use Rattle.std.specs.Prelude.{ℕ, zero, suc, ◌+◌, ◌≤◌, ◌<◌, ◌≡◌, true, false, ◌⊎◌, ◌↔◌, List, [], ◌∷◌, ◌++◌, length, get_or, eqb}
+use Rattle.std.specs.Prelude.{ℕ, zero, suc, ◌+◌, ◌≤◌, ◌<◌, ◌≡◌, true, false, ◌⊎◌, ◌↔◌, List, [], ◌∷◌, ◌++◌, length, get_or, eqb, if◌then◌else◌}
 use Rattle.model.specs.Answers.{result, refused}
-use Rattle.model.specs.Choice.{if◌then◌else◌}
 use Rattle.model.specs.Tree.{WellFormed}
 use Rattle.model.specs.Names.{IsNamesList, how_many_names, is_listed}
 use Rattle.model.specs.Term.{Terms, none, term, alone, in_brackets, text_of_terms, IsTerm}

@@ -1,6 +1,6 @@
 -- "Half-drawn states" (document 02, c): which states are used. Assumes nothing: these are definitions.
-use Rattle.std.specs.Prelude.{ℕ, zero, suc, ◌+◌, ◌-◌, Bool, false, ◌&&◌, ◌||◌, List, [], ◌∷◌, map, length, get_or, take, ltb}
-use Rattle.model.specs.Choice.{if◌then◌else◌, any_below}
+use Rattle.std.specs.Prelude.{ℕ, zero, suc, ◌+◌, ◌-◌, Bool, false, ◌&&◌, ◌||◌, List, [], ◌∷◌, map, length, get_or, take, ltb, if◌then◌else◌}
+use Rattle.model.specs.Choice.{any_below}
 use Rattle.model.specs.Table.{Row, Table, no_row}
 use Rattle.model.specs.Tree.{Forest, Tree, empty, node, only}
 use Rattle.model.specs.Reach.{Reaches, Accepted, target_of, row_of, state_of, entry_of, is_among}

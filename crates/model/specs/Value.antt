@@ -1,6 +1,5 @@
 -- "Counting and order": the value and the number of a tree (001, Figure 1), and back again (001, Figure 2). Assumes nothing: these are definitions.
-use Rattle.std.specs.Prelude.{ℕ, zero, suc, ◌+◌, ◌*◌, ◌-◌, ◌/◌, ◌%◌, List, [], ◌∷◌, map, get_or, take, ltb}
-use Rattle.model.specs.Choice.{if◌then◌else◌}
+use Rattle.std.specs.Prelude.{ℕ, zero, suc, ◌+◌, ◌*◌, ◌-◌, ◌/◌, ◌%◌, List, [], ◌∷◌, map, get_or, take, ltb, if◌then◌else◌}
 use Rattle.model.specs.Table.{Row, Table, no_row}
 use Rattle.model.specs.Tree.{Forest, Tree, empty, node, only}
 use Rattle.model.specs.Reach.{target_of, row_of, state_of, entry_of}

@@ -1,8 +1,7 @@
 -- "Writing a tree gives the count of entries written at the front; later entries stay.": the check, then 15 and 16. Assumes nothing: these
 -- are definitions.
-use Rattle.std.specs.Prelude.{ℕ, not, List, length, ltb}
+use Rattle.std.specs.Prelude.{ℕ, not, List, length, ltb, if◌then◌else◌}
 use Rattle.model.specs.Answers.{Outcome, result, refused, lent_after}
-use Rattle.model.specs.Choice.{if◌then◌else◌}
 use Rattle.model.specs.Table.{Table, table_of}
 use Rattle.model.specs.Tree.{serial}
 use Rattle.model.specs.Count.{count}

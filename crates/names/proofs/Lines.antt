@@ -1,4 +1,5 @@
 -- The lines of a names list, taken one after another. Assumes nothing.
+use Rattle.std.specs.Prelude.{if◌then◌else◌}
 use Prim.Native.Nat.{ℕ, suc, ◌+◌, ◌-◌, ◌*◌, ◌/◌, ◌<◌, ◌≤◌}
 use mathlib.Core.Path.{◌≡◌, refl, sym, ap, ap₂, ◌∙◌}
 use mathlib.Core.Bool.{Bool, true, false, ◌&&◌, ◌||◌, not, and-true as and_yes, and-false, or-true}
@@ -10,7 +11,7 @@ use lib.Seq.{drop-drop, drop_at, take_at, drop-cons, get_or-drop, get_or-set_sam
 use lib.Dec.{eqb, ltb, leb}
 use borrow.Author.Tests.{eqb-true, ltb-true, lt-ltb, le-ltb, ltb-false, le-leb, lt-leb, eq-eqb, ne_eqb}
 use Rattle.model.specs.Answers.{Outcome, refused}
-use Rattle.model.specs.Choice.{if◌then◌else◌, any_below}
+use Rattle.model.specs.Choice.{any_below}
 use Rattle.model.specs.Names.{is_letter, all_name_bytes, is_name, alike, same_name, Line, joined, lines_of, no_line, line_at, how_many_names, line_with, symbol_of, is_listed, line_ground, names_then}
 use Rattle.model.proofs.Choice.{and_true, no_fault, fault_refused, none_more, any_none, any_true, is_false, not_both}
 use Rattle.model.proofs.Bytes.{letter_byte, name_bytes_lem, IsName, name_parts, name_made, byte_others}

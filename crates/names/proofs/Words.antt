@@ -1,4 +1,5 @@
 -- Names taken by words of eight bytes: compared, found the end of, and hashed. Assumes nothing.
+use Rattle.std.specs.Prelude.{if◌then◌else◌}
 use Prim.Native.Nat.{ℕ, zero, suc, ◌+◌, ◌-◌, ◌*◌, ◌/◌, ◌%◌, ◌^◌, ◌<◌, ◌≤◌}
 use mathlib.Core.Path.{◌≡◌, refl, sym, ap, ap₂, ◌∙◌}
 use mathlib.Core.Bool.{Bool, true, false, ◌&&◌}
@@ -10,7 +11,6 @@ use lib.ListN.{length, get_or, take, drop, replicate, length-map, length-append,
 use lib.Seq.{drop-drop, length-take-le, take_at, drop_at, get_or-take, get_or-drop}
 use lib.Dec.{ltb}
 use borrow.Author.Tests.{ltb-true, ltb-false}
-use Rattle.model.specs.Choice.{if◌then◌else◌}
 use Rattle.model.specs.Table.{same_by}
 use Rattle.model.specs.Names.{all_name_bytes, alike, same_name}
 use Rattle.model.proofs.Bytes.{byte_others}

@@ -1,8 +1,7 @@
 -- The lines of a names list as the code holds them, and the index of names. Assumes nothing: these are definitions.
-use Rattle.std.specs.Prelude.{ℕ, zero, suc, ◌+◌, ◌*◌, ◌/◌, ◌%◌, ◌^◌, ◌<◌, ◌≤◌, ◌≡◌, Bool, true, false, ◌&&◌, List, [], ◌∷◌, map, length, get_or, take, drop}
+use Rattle.std.specs.Prelude.{ℕ, zero, suc, ◌+◌, ◌*◌, ◌/◌, ◌%◌, ◌^◌, ◌<◌, ◌≤◌, ◌≡◌, Bool, true, false, ◌&&◌, List, [], ◌∷◌, map, length, get_or, take, drop, if◌then◌else◌}
 use Rattle.std.specs.Int.Bits.{bit_or, bit_xor}
 use Rattle.model.specs.Answers.{Outcome, refused}
-use Rattle.model.specs.Choice.{if◌then◌else◌}
 use Rattle.model.specs.Names.{is_name, same_name, line_at, how_many_names, names_then}
 use Rattle.chains.specs.First.{first_with}
 use Rattle.words.specs.Words.{is_inner, is_list_byte, packed}

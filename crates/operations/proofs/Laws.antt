@@ -1,4 +1,5 @@
 -- The check, and what follows it: the parts' promises together are the operations'. Assumes nothing.
+use Rattle.std.specs.Prelude.{if◌then◌else◌}
 use Prim.Native.Nat.{ℕ, ◌<◌, ◌≤◌}
 use mathlib.Core.Path.{◌≡◌, refl, sym, ap, subst, ◌∙◌}
 use mathlib.Core.List.{List, map}
@@ -11,7 +12,6 @@ use lib.Dec.{ltb}
 use borrow.Author.Tests.{ltb-true}
 use mathlib.Core.Bool.{Bool, true, false, not}
 use Rattle.model.specs.Answers.{Outcome, result, refused, refused_by, outcome, lent_after}
-use Rattle.model.specs.Choice.{if◌then◌else◌}
 use Rattle.model.specs.Table.{Row, Table, table_of}
 use Rattle.model.specs.Tree.{serial}
 use Rattle.model.specs.Count.{sum, count, longest, total}

@@ -1,4 +1,5 @@
 -- The state looked for in the accepting list. Assumes nothing.
+use Rattle.std.specs.Prelude.{if◌then◌else◌}
 use Prim.Native.Nat.{ℕ, ◌+◌, ◌<◌, ◌≤◌}
 use mathlib.Core.Path.{◌≡◌, refl, sym}
 use mathlib.Core.List.{List, map}
@@ -11,7 +12,6 @@ use lib.Dec.{ltb}
 use borrow.Author.Tests.{lt-ltb, le-ltb}
 use borrow.Author.Count.{below_more}
 use Rattle.model.specs.Answers.{result, refused}
-use Rattle.model.specs.Choice.{if◌then◌else◌}
 use Rattle.model.specs.Reach.{entry_of}
 use Rattle.model.specs.Count.{sum}
 use Rattle.model.specs.Check.{count_limit}

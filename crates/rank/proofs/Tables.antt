@@ -1,5 +1,6 @@
 -- A good table, its rows in words, with their index, and the counts of its used states, which are within the limits: what numbering needs of it,
 -- and that the machine numbers its trees. Assumes nothing.
+use Rattle.std.specs.Prelude.{if◌then◌else◌}
 use Prim.Native.Nat.{ℕ, ◌+◌, ◌<◌, ◌≤◌}
 use mathlib.Core.Path.{◌≡◌, refl, sym, ap, ◌∙◌}
 use mathlib.Core.Bool.{Bool, true, false}
@@ -16,7 +17,7 @@ use Rattle.model.specs.Count.{product, weight, state_counts, Counts, count}
 use Rattle.model.specs.Used.{is_used, used_count, formed_value}
 use Rattle.model.specs.Value.{horner, earlier_rows, number_of, tree_number}
 use Rattle.model.specs.Check.{count_limit}
-use Rattle.model.specs.Choice.{if◌then◌else◌, first_faulty}
+use Rattle.model.specs.Choice.{first_faulty}
 use Rattle.model.specs.Entries.{entry_ground, ends_too_soon, form_then, tree_then, tree_from}
 use Rattle.model.specs.Number.{accepted_then}
 use Rattle.model.proofs.Choice.{is_false, first_fault, First, nowhere, first, first_of}

@@ -1,4 +1,5 @@
 -- What the machine makes of a tree's entries: document 01's refusal 14, or the tree's number, with values in used states only. Assumes nothing.
+use Rattle.std.specs.Prelude.{if◌then◌else◌}
 use Prim.Native.Nat.{ℕ, suc, ◌+◌, ◌-◌}
 use mathlib.Core.Path.{◌≡◌, refl, sym, ap, ◌∙◌}
 use mathlib.Core.Bool.{Bool, true, false, not}
@@ -10,7 +11,6 @@ use lib.Seq.{take_at, drop_at}
 use lib.Dec.{ltb}
 use borrow.Author.Tests.{ne_eqb}
 use Rattle.model.specs.Answers.{Outcome, result, refused}
-use Rattle.model.specs.Choice.{if◌then◌else◌}
 use Rattle.model.specs.Table.{Table}
 use Rattle.model.specs.Tree.{Forest, Tree, empty, node, only, serial_forest, serial, SymbolsInRange}
 use Rattle.model.specs.Reach.{row_with, target_of, states_of, row_of, state_of, entry_of}

@@ -1,8 +1,7 @@
 -- A tree's entries taken in turn: open nodes, the states of closed ones that wait for their parent, and their values. Assumes nothing: these
 -- are definitions.
-use Rattle.std.specs.Prelude.{ℕ, ◌+◌, ◌-◌, List, [], ◌∷◌, ◌++◌, map, length, get_or, take, drop, eqb, ltb}
+use Rattle.std.specs.Prelude.{ℕ, ◌+◌, ◌-◌, List, [], ◌∷◌, ◌++◌, map, length, get_or, take, drop, eqb, ltb, if◌then◌else◌}
 use Rattle.model.specs.Answers.{Outcome, result, refused}
-use Rattle.model.specs.Choice.{if◌then◌else◌}
 use Rattle.model.specs.Reach.{entry_of}
 use Rattle.model.specs.Count.{sum}
 use Rattle.model.specs.Value.{horner}

@@ -1,4 +1,5 @@
 -- Laws of one row by the grounds 2 to 5. Assumes nothing.
+use Rattle.std.specs.Prelude.{if◌then◌else◌}
 use Prim.Native.Nat.{ℕ, zero, suc, ◌+◌, ◌-◌, ◌<◌, ◌≤◌, max}
 use mathlib.Core.Path.{◌≡◌, refl, sym, ◌∙◌}
 use mathlib.Core.Bool.{Bool, true, false, ◌&&◌, not}
@@ -8,7 +9,6 @@ use lib.ListN.{length, get_or, take, drop, drop_of_length-le}
 use lib.Dec.{ltb}
 use borrow.Author.Tests.{ltb-true, ltb-false, lt-ltb, le-ltb}
 use Rattle.model.specs.declared.Kind.TheVariants.{CutRow, TooManyRowsOrArguments, NotInRange, ArgumentNotBelowTarget}
-use Rattle.model.specs.Choice.{if◌then◌else◌}
 use Rattle.model.specs.Table.{Row, row_at, row_start, row_numbered, arg_count_at, args_at, Whole}
 use Rattle.model.specs.Check.{all_below, cut, too_many, out_of_range, not_below, repeated, row_ground}
 use Rattle.model.proofs.Choice.{and_true, and_both}

@@ -1,8 +1,7 @@
 -- One row by the grounds 2 to 5. Assumes nothing: these are definitions.
-use Rattle.std.specs.Prelude.{ℕ, ◌+◌, ◌*◌, ◌<◌, max, Bool, ◌||◌, not, List, [], ◌∷◌, length, eqb, ltb}
+use Rattle.std.specs.Prelude.{ℕ, ◌+◌, ◌*◌, ◌<◌, max, Bool, ◌||◌, not, List, [], ◌∷◌, length, eqb, ltb, if◌then◌else◌}
 use Rattle.model.specs.declared.Kind.TheVariants.{CutRow, TooManyRowsOrArguments, NotInRange, ArgumentNotBelowTarget}
 use Rattle.model.specs.Answers.{kind_number}
-use Rattle.model.specs.Choice.{if◌then◌else◌}
 use Rattle.model.specs.Table.{Row, row_at, row_start}
 use Rattle.model.specs.Check.{cut, too_many, is_state, out_of_range, not_below}
 use Rattle.rows.specs.declared.RowStep.{RowStep}

@@ -1,4 +1,5 @@
 -- Laws of the accepting list's check. Assumes nothing.
+use Rattle.std.specs.Prelude.{if◌then◌else◌}
 use Prim.Native.Nat.{ℕ, ◌+◌, ◌<◌, ◌≤◌}
 use mathlib.Core.Path.{◌≡◌, refl, sym, ap, ◌∙◌}
 use mathlib.Core.Bool.{Bool, true, false, not, ◌||◌, or-false}
@@ -10,7 +11,7 @@ use lib.Seq.{get_or-set_same, get_or-set_other}
 use lib.Dec.{eqb, ltb}
 use borrow.Author.Tests.{eq-eqb, ne_eqb, eqb-true, eqb-false, lt-ltb, le-ltb}
 use borrow.Author.Count.{below_more}
-use Rattle.model.specs.Choice.{if◌then◌else◌, any_below}
+use Rattle.model.specs.Choice.{any_below}
 use Rattle.model.specs.Check.{accepting_ground}
 use Rattle.model.proofs.Choice.{or_right}
 use Rattle.chains.specs.declared.Found.TheVariants.{At, Nothing}

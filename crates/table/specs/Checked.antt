@@ -1,10 +1,9 @@
 -- The check in its parts, and what a table that passes leaves for numbering and writing. Assumes nothing: these are definitions.
-use Rattle.std.specs.Prelude.{ℕ, ◌<◌, ◌≤◌, ◌≡◌, Bool, true, List, length, get_or, take, ltb}
+use Rattle.std.specs.Prelude.{ℕ, ◌<◌, ◌≤◌, ◌≡◌, Bool, true, List, length, get_or, take, ltb, if◌then◌else◌}
 use Rattle.model.specs.declared.Kind.{Kind}
 use Rattle.model.specs.declared.Answer.{Answer}
 use Rattle.model.specs.declared.Answer.TheVariants.{Result}
 use Rattle.model.specs.Answers.{Outcome, result, refused, kind_number, refused_by, outcome}
-use Rattle.model.specs.Choice.{if◌then◌else◌}
 use Rattle.model.specs.Table.{rows_of, how_many_rows}
 use Rattle.model.specs.Check.{row_ground, accepting_ground, count_limit, counts_outcome, check_outcome}
 use Rattle.chains.specs.declared.Found.{Found}

@@ -1,11 +1,11 @@
 -- What is written for the entries of a tree, entry by entry, is the text of its term.
+use Rattle.std.specs.Prelude.{if◌then◌else◌}
 use Prim.Native.Nat.{ℕ, ◌≤◌}
 use mathlib.Core.Path.{◌≡◌, refl, ap, sym, ◌∙◌}
 use mathlib.Core.List.{List, [], ◌∷◌, ◌++◌, append_assoc, append-nil}
 use native.Mathlib.Omega.{arith}
 use lib.Dec.{eqb}
 use borrow.Author.Tests.{ne_eqb}
-use Rattle.model.specs.Choice.{if◌then◌else◌}
 use Rattle.model.specs.Names.{name_of}
 use Rattle.model.specs.Tree.{Forest, Tree, empty, node, only, serial_forest, serial, SymbolsInRange, WellFormed}
 use Rattle.model.specs.Term.{in_brackets, after_comma, text_of_terms, text_of}

@@ -1,4 +1,5 @@
 -- The bytes of an entry, by what stands before it, and the bytes of the entries from a place on. Assumes nothing.
+use Rattle.std.specs.Prelude.{if◌then◌else◌}
 use Prim.Native.Nat.{ℕ, ◌+◌, ◌-◌, ◌*◌, ◌<◌, ◌≤◌}
 use mathlib.Core.Path.{◌≡◌, refl, sym, ap, ◌∙◌}
 use mathlib.Core.Bool.{Bool, true, false}
@@ -8,7 +9,6 @@ use native.Mathlib.Nat.{pos_of_ne-zero}
 use lib.ListN.{length, get_or, drop, set, length-append, drop_of_length-le}
 use lib.Dec.{eqb}
 use borrow.Author.Tests.{eqb-true, eqb-false, eq-eqb, ne_eqb}
-use Rattle.model.specs.Choice.{if◌then◌else◌}
 use Rattle.model.specs.Names.{name_of, line_at}
 use Rattle.model.proofs.Lists.{drop_next}
 use Rattle.names.specs.NamesIndex.{Lined}

@@ -1,4 +1,5 @@
 -- The text read so far, with the entries that are kept. Assumes nothing.
+use Rattle.std.specs.Prelude.{if◌then◌else◌}
 use Prim.Native.Nat.{ℕ, zero, suc, ◌+◌, ◌-◌, ◌*◌, ◌<◌, ◌≤◌}
 use mathlib.Core.Path.{◌≡◌, refl, sym, ap, ◌∙◌}
 use mathlib.Core.Bool.{Bool, true, false, not}
@@ -8,7 +9,6 @@ use lib.ListN.{length, get_or, take, drop, replicate, length-append, length-repl
 use lib.Dec.{eqb, ltb}
 use lib.Seq.{get_or-drop}
 use borrow.Author.Tests.{eqb-true, lt-ltb, ltb-true, ltb-false}
-use Rattle.model.specs.Choice.{if◌then◌else◌}
 use Rattle.model.specs.Names.{is_letter, is_name_byte, all_name_bytes, is_name, same_name, line_at, symbol_of, how_many_names}
 use Rattle.model.specs.Term.{Scan, passes, breaks_at, due, in_name, closed, goes_on, stops, after_term, onward, step, scan, run, name_at, term_then}
 use Rattle.model.specs.TermOperations.{name_ground}

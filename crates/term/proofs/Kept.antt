@@ -1,4 +1,5 @@
 -- The entries that are kept while a text is read, and how they come to the front of the lent list. Assumes nothing.
+use Rattle.std.specs.Prelude.{if◌then◌else◌}
 use Prim.Native.Nat.{ℕ, zero, suc, ◌+◌, ◌<◌, ◌≤◌}
 use mathlib.Core.Path.{◌≡◌, refl, sym, ap, ◌∙◌}
 use mathlib.Core.Bool.{Bool, true, false}
@@ -8,7 +9,6 @@ use lib.ListN.{length, get_or, set, take, drop, replicate, length-set, drop_of_l
 use lib.Seq.{get_or-set_same, get_or-set_other, get_or-take, length-take-le}
 use lib.Dec.{eqb, eqb-suc-zero, eqb-zero-suc, eqb-suc-suc}
 use borrow.Author.Tests.{eqb-true, ne_eqb, eqb-false}
-use Rattle.model.specs.Choice.{if◌then◌else◌}
 use Rattle.model.proofs.Lists.{drop_next}
 use Rattle.model.proofs.Writing.{Writing, writing_first, writing_length, writing_last, piece_written, one_set}
 use Rattle.term.specs.Written.{Front}

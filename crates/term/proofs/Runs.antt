@@ -1,4 +1,5 @@
 -- The names in a text, found one after another, and their grounds for 20. Assumes nothing.
+use Rattle.std.specs.Prelude.{if◌then◌else◌}
 use Prim.Native.Nat.{ℕ, zero, suc, ◌+◌, ◌-◌, ◌<◌, ◌≤◌}
 use mathlib.Core.Path.{◌≡◌, refl, sym, ap, ◌∙◌}
 use mathlib.Core.Bool.{Bool, true, false, ◌&&◌, not, and-false}
@@ -9,7 +10,6 @@ use lib.ListN.{length, get_or, take, drop, length-append, length-drop, get_or-ap
 use lib.Seq.{drop-drop, get_or-drop, take_at}
 use lib.Dec.{eqb, ltb}
 use borrow.Author.Tests.{ltb-true, ltb-false}
-use Rattle.model.specs.Choice.{if◌then◌else◌}
 use Rattle.model.specs.Names.{is_name_byte, all_name_bytes, symbol_of, is_listed, how_many_names}
 use Rattle.model.specs.Term.{run, name_begins, name_at}
 use Rattle.model.specs.TermOperations.{name_ground}

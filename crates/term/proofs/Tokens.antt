@@ -1,11 +1,11 @@
 -- The entries that a text gives, byte by byte, are those of its term.
+use Rattle.std.specs.Prelude.{if◌then◌else◌}
 use Prim.Native.Nat.{ℕ}
 use mathlib.Core.Path.{◌≡◌, refl, ap, sym, ◌∙◌}
 use mathlib.Core.Bool.{Bool, true, false, not}
 use mathlib.Core.List.{List, [], ◌∷◌, ◌++◌, append_assoc, append-nil}
 use lib.ListN.{length, get_or}
 use lib.Dec.{eqb}
-use Rattle.model.specs.Choice.{if◌then◌else◌}
 use Rattle.model.specs.Names.{is_letter, is_name_byte, all_name_bytes, is_name, symbol_of}
 use Rattle.model.specs.Tree.{serial_forest, serial}
 use Rattle.model.specs.Term.{Terms, none, term, Term, AllNames, IsTerm}

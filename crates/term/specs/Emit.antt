@@ -1,6 +1,5 @@
 -- What the loops write for a text and for the entries of a tree, item by item. Assumes nothing: these are definitions.
-use Rattle.std.specs.Prelude.{ℕ, Bool, not, List, [], ◌∷◌, ◌++◌, get_or, length, eqb}
-use Rattle.model.specs.Choice.{if◌then◌else◌}
+use Rattle.std.specs.Prelude.{ℕ, Bool, not, List, [], ◌∷◌, ◌++◌, get_or, length, eqb, if◌then◌else◌}
 use Rattle.model.specs.Names.{is_name_byte, name_of, symbol_of}
 use Rattle.model.specs.Term.{run}
 

@@ -1,7 +1,7 @@
 -- What the parts of reading a term in one pass promise. Assumes nothing: these are definitions.
-use Rattle.std.specs.Prelude.{ℕ, ◌+◌, ◌<◌, ◌≤◌, ◌≡◌, false, not, List, ◌∷◌, ◌++◌, length, get_or, drop, replicate, eqb}
+use Rattle.std.specs.Prelude.{ℕ, ◌+◌, ◌<◌, ◌≤◌, ◌≡◌, false, not, List, ◌∷◌, ◌++◌, length, get_or, drop, replicate, eqb, if◌then◌else◌}
 use Rattle.model.specs.Answers.{Outcome, refused}
-use Rattle.model.specs.Choice.{if◌then◌else◌, first_faulty}
+use Rattle.model.specs.Choice.{first_faulty}
 use Rattle.model.specs.Names.{is_name_byte}
 use Rattle.model.specs.Term.{Scan, passes, breaks_at, due, in_name, scan, term_then}
 use Rattle.model.specs.TermOperations.{entries_of, name_ground}

@@ -1,4 +1,5 @@
 -- The entries read so far, and what the entry at hand does. Assumes nothing.
+use Rattle.std.specs.Prelude.{if◌then◌else◌}
 use Prim.Native.Nat.{ℕ, suc, ◌+◌, ◌-◌, ◌<◌, ◌≤◌}
 use mathlib.Core.Path.{◌≡◌, refl, sym, ap, ◌∙◌}
 use mathlib.Core.Bool.{Bool, true, false, ◌&&◌, ◌||◌}
@@ -10,7 +11,6 @@ use lib.Seq.{take-suc, take_all}
 use lib.Dec.{eqb, ltb}
 use borrow.Author.Tests.{lt-ltb, le-ltb}
 use Rattle.model.specs.Answers.{Outcome, result, refused, refused_by}
-use Rattle.model.specs.Choice.{if◌then◌else◌}
 use Rattle.model.specs.Tree.{WellFormed}
 use Rattle.model.specs.Entries.{open_after, open_at, entry_ground, ends_too_soon, form_then, tree_then}
 use Rattle.model.proofs.Choice.{no_fault, fault_refused, none_more}

@@ -1,7 +1,6 @@
 -- Reading a tree entry by entry, as the code does. Assumes nothing: these are definitions.
-use Rattle.std.specs.Prelude.{ℕ, ◌+◌, ◌-◌, ◌≡◌, ◌&&◌, ◌||◌, List, eqb, ltb}
+use Rattle.std.specs.Prelude.{ℕ, ◌+◌, ◌-◌, ◌≡◌, ◌&&◌, ◌||◌, List, eqb, ltb, if◌then◌else◌}
 use Rattle.model.specs.Answers.{Outcome, refused_by}
-use Rattle.model.specs.Choice.{if◌then◌else◌}
 use Rattle.model.specs.Entries.{tree_then}
 use Rattle.model.specs.declared.Kind.TheVariants.{NotATree}
 use Rattle.model.specs.declared.Refusal.{Refusal}

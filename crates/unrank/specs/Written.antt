@@ -1,7 +1,6 @@
 -- What writing the tree of a number leaves. Assumes nothing: these are definitions.
-use Rattle.std.specs.Prelude.{ℕ, ◌≡◌, not, List, length, ltb}
+use Rattle.std.specs.Prelude.{ℕ, ◌≡◌, not, List, length, ltb, if◌then◌else◌}
 use Rattle.model.specs.Answers.{Outcome, refused, outcome, lent_after}
-use Rattle.model.specs.Choice.{if◌then◌else◌}
 use Rattle.model.specs.Table.{Row}
 use Rattle.model.specs.Write.{tree_fits}
 use Rattle.model.specs.declared.Answer.{Answer}

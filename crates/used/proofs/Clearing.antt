@@ -1,4 +1,5 @@
 -- Counts and sums of unused states set to 0. Assumes nothing.
+use Rattle.std.specs.Prelude.{if◌then◌else◌}
 use Prim.Native.Nat.{ℕ, suc, ◌+◌, ◌-◌, ◌<◌, ◌≤◌}
 use mathlib.Core.Path.{◌≡◌, refl, sym, ap, ◌∙◌}
 use mathlib.Core.Bool.{Bool, true, false}
@@ -10,7 +11,6 @@ use lib.ListN.{length, get_or, set, length-set}
 use lib.Seq.{get_or-set_same, get_or-set_other}
 use lib.Dec.{eqb, ltb}
 use borrow.Author.Tests.{lt-ltb, eqb-true, eqb-false}
-use Rattle.model.specs.Choice.{if◌then◌else◌}
 use Rattle.model.specs.Table.{Row}
 use Rattle.model.proofs.Choice.{if_yes, if_no}
 use Rattle.rows.specs.Words.{after_in, rows_in}

@@ -1,8 +1,7 @@
 -- Counts and sums of unused states set to 0, and used states held to the limits. Assumes nothing: these are definitions.
-use Rattle.std.specs.Prelude.{ℕ, ◌<◌, ◌≤◌, ◌≡◌, Bool, true, List, length, get_or}
+use Rattle.std.specs.Prelude.{ℕ, ◌<◌, ◌≤◌, ◌≡◌, Bool, true, List, length, get_or, if◌then◌else◌}
 use Rattle.model.specs.declared.Kind.{Kind}
 use Rattle.model.specs.Answers.{kind_number}
-use Rattle.model.specs.Choice.{if◌then◌else◌}
 use Rattle.model.specs.Count.{count}
 use Rattle.model.specs.Check.{count_limit, state_ground}
 use Rattle.chains.specs.First.{AllFine, FirstAt}

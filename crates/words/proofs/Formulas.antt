@@ -1,9 +1,10 @@
 -- The formulas of `fold_word`, `inner_ahead` and `foreign_bytes`: on a number they are the same formulas on each of its bytes. Assumes nothing.
+use Rattle.std.specs.Prelude.{if◌then◌else◌}
 use Prim.Native.Nat.{ℕ, ◌+◌, ◌-◌, ◌*◌, ◌/◌, ◌^◌, ◌<◌}
 use mathlib.Core.Path.{◌≡◌, refl, sym, ap, ap₂, ◌∙◌}
 use native.Mathlib.Omega.{arith}
 use lib.Bits.{bit_and, bit_or, bit_xor}
-use Rattle.model.specs.Choice.{if◌then◌else◌, any_below}
+use Rattle.model.specs.Choice.{any_below}
 use Rattle.model.specs.Names.{is_letter, is_name_byte, lower}
 use Rattle.words.specs.Words.{is_inner, lanes, foreign}
 use Rattle.words.proofs.Lanes.{Small, small, equal, ext, whole, same_byte, bound, add, quarter, and, or, xor}

@@ -1,10 +1,10 @@
 -- How many bytes from `-` to `z` come first, by the zeros below the lowest mark. Assumes nothing.
+use Rattle.std.specs.Prelude.{if◌then◌else◌}
 use Prim.Native.Nat.{ℕ, zero, suc, ◌+◌, ◌*◌, ◌/◌, ◌%◌}
 use mathlib.Core.Path.{◌≡◌, refl, ap, ◌∙◌}
 use mathlib.Core.Bool.{Bool, true, false}
 use native.Mathlib.Omega.{arith}
 use lib.Count.{count_trailing_zeros}
-use Rattle.model.specs.Choice.{if◌then◌else◌}
 use Rattle.words.specs.Words.{is_inner, lanes, inner_ahead}
 use Rattle.words.proofs.Formulas.{outer}
 
