@@ -179,6 +179,8 @@ fn number_tree(
 }
 
 // The number of a tree of at most 4,096 entries: at most 2,048 nodes are open or waiting.
+// (Its arrays are set up at its start. In line in its caller, clang 22 sets them up behind the first tests, and loses what it holds in a register.)
+#[inline(never)]
 fn number_formed(
     pool: &[u16],
     accepting: &[u16],
