@@ -24,8 +24,8 @@ fn link() -> Result<(), String> {
         Some(top) if top.join("crates.txt").is_file() => top,
         _ => return Err(format!("no crates.txt two levels above {}", here.display())),
     };
-    for source in ["crates", "crates.txt"] {
-        println!("cargo::rerun-if-changed={}", top.join(source).display());
+    for source in sources(top).map_err(|error| error.to_string())? {
+        println!("cargo::rerun-if-changed={}", source.display());
     }
     println!("cargo::rerun-if-env-changed=RATTLE_HOME");
 
@@ -34,6 +34,21 @@ fn link() -> Result<(), String> {
     println!("cargo::rustc-link-search=native={}", out.display());
     println!("cargo::rustc-link-lib=static=treenum_c");
     Ok(())
+}
+
+/// What the archive is made of: crates.txt, and the crates but for what rt makes in their folders.
+fn sources(top: &Path) -> io::Result<Vec<PathBuf>> {
+    let mut sources = vec![top.join("crates.txt"), top.join("tools/build")];
+    for krate in fs::read_dir(top.join("crates"))? {
+        let folder = krate?.path();
+        sources.extend(
+            ["src", "specs", "proofs"]
+                .map(|part| folder.join(part))
+                .into_iter()
+                .filter(|part| part.is_dir()),
+        );
+    }
+    Ok(sources)
 }
 
 /// Makes the archive, and a copy of it.
@@ -54,7 +69,7 @@ fn archive(top: &Path, copy: &Path) -> io::Result<()> {
         .stdout(io::stderr())
         .status()
         .map_err(|error| {
-            let hint = "is rt, the command of the Rattle kit, on PATH?";
+            let hint = "does it stand at the top of the repository?";
             io::Error::other(format!("{command} did not run ({error}): {hint}"))
         })?;
     if !status.success() {

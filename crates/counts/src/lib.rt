@@ -25,14 +25,14 @@ const EMPTY: u64 = 1099511627776;
 const LENGTH_CEILING: u64 = 4097;
 
 // A count kept to 2^64: `count` and `over` together, where `over` is 1 only beside TOP.
-#[derive(Drop)]
+#[derive(Clone, Copy)]
 pub struct Kept {
     pub count: u64,
     pub over: u64,
 }
 
 // What a state counts, kept to 2^64, and how many entries its longest tree has, kept to 4,097.
-#[derive(Drop)]
+#[derive(Clone, Copy)]
 struct Counted {
     count: u64,
     over: u64,

@@ -13,7 +13,7 @@ use model::Kind;
 use rows::RowStep;
 
 // The row that was looked for; or nothing, at the end of its chain; or the chain is longer than allowed.
-#[derive(Drop)]
+#[derive(Clone, Copy)]
 pub enum Sought {
     At(usize),
     Nothing,
@@ -21,7 +21,7 @@ pub enum Sought {
 }
 
 // A row was entered in the index; or it repeats an earlier one; or its chain is longer than allowed.
-#[derive(Drop)]
+#[derive(Clone, Copy)]
 pub enum Entering {
     Entered,
     Repeats,
@@ -30,7 +30,7 @@ pub enum Entering {
 
 // How many rows there are, where all pass; or how many pass before a faulty one, and the ground on which it is faulty; or a chain of the index is
 // longer than allowed.
-#[derive(Drop)]
+#[derive(Clone, Copy)]
 pub enum Walked {
     Passed(usize),
     Stopped(usize, Kind),

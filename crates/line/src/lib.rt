@@ -19,7 +19,7 @@ const BEYOND: u64 = 18446744073709551615;
 const LONGEST_LINE: usize = 53249;
 
 // A line so far: how many bytes it has (4,097 stands for more), whether all are digits, and the number that digits make.
-#[derive(Drop)]
+#[derive(Clone, Copy)]
 pub struct Line {
     len: usize,
     digits: bool,
@@ -27,7 +27,7 @@ pub struct Line {
 }
 
 // After bytes were fed: the line so far, the place of the next byte to feed, and how many bytes are to be printed.
-#[derive(Drop)]
+#[derive(Clone, Copy)]
 pub struct Fed {
     pub line: Line,
     pub next: usize,

@@ -5,7 +5,7 @@ ghost use Rattle.std.specs.Prelude.{◌≡◌};
 ghost use Rattle.model.specs.Answers.{refused, kind_number, refused_by, outcome};
 
 // The refusals of document 01, in the order of their numbers.
-#[derive(Drop)]
+#[derive(Clone, Copy)]
 pub enum Kind {
     // 1 to 7 and 9 to 11: checking a table
     TooManyStates,
@@ -38,13 +38,13 @@ pub enum Kind {
     ShortTextList,
 }
 
-#[derive(Drop)]
+#[derive(Clone, Copy)]
 pub struct Refusal {
     pub place: u64,
     pub kind: Kind,
 }
 
-#[derive(Drop)]
+#[derive(Clone, Copy)]
 pub enum Answer {
     Result(u64),
     Refused(Refusal),

@@ -11,14 +11,14 @@ use chains::{Found, wide};
 use words::{foreign_bytes, inner_ahead, word_at, word_or_rest, words_alike};
 
 // What checking a names list finds: it keeps to the rules, and how many names it has, or the first faulty line.
-#[derive(Drop)]
+#[derive(Clone, Copy)]
 pub enum NamesCheck {
     Sound(usize),
     Faulty(usize),
 }
 
 // Where a stretch of bytes from `-` to `z` ends, and its bucket of the index.
-#[derive(Drop)]
+#[derive(Clone, Copy)]
 pub struct Stretch {
     pub end: usize,
     pub bucket: usize,

@@ -17,7 +17,7 @@ use model::{Answer, Kind, refused_answer};
 use tree::{Form, Reading, Step};
 
 // What closing a node gives: the state that the tree reaches and its value there; or that it reaches none.
-#[derive(Drop)]
+#[derive(Clone, Copy)]
 enum Node {
     Reaches(u16, u64),
     Stuck,

@@ -11,7 +11,7 @@ use chains::{wide, wider};
 use model::Kind;
 
 // No ground holds for a row, or the one on which it is faulty.
-#[derive(Drop)]
+#[derive(Clone, Copy)]
 pub enum RowStep {
     Fine,
     Faulty(Kind),

@@ -9,7 +9,7 @@ use chains::Found;
 use names::{is_letter, is_name_byte};
 
 // What has been read of a text. The first number is how many brackets are open.
-#[derive(Drop)]
+#[derive(Clone, Copy)]
 pub enum TextState {
     // a name must begin here
     Due(usize),
@@ -20,7 +20,7 @@ pub enum TextState {
 }
 
 // The next byte is taken, or no term can go on with it.
-#[derive(Drop)]
+#[derive(Clone, Copy)]
 pub enum TextStep {
     GoesOn(TextState),
     Stops,

@@ -15,7 +15,7 @@ use std::io::{Read, Stderr, Stdin, Stdout, Write};
 use std::str::from_utf8;
 
 // What a read gives: so many bytes at the front of the part, the end of the input, or nothing, since it failed.
-#[derive(Drop)]
+#[derive(Clone, Copy)]
 pub enum Got {
     Bytes(usize),
     End,

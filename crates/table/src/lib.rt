@@ -14,14 +14,14 @@ use model::{Answer, Kind, Refusal, refuse};
 use used::StateFault;
 
 // How many rows there are and the multiplier of their index, or the first faulty row and its ground.
-#[derive(Drop)]
+#[derive(Clone, Copy)]
 enum CheckedRows {
     Passed(usize, u64),
     Stopped(usize, Kind),
 }
 
 // What the internal check finds: the total, how many rows there are and the multiplier of their index; or the refusal.
-#[derive(Drop)]
+#[derive(Clone, Copy)]
 pub enum Checked {
     Sound(u64, usize, u64),
     Refuses(Refusal),

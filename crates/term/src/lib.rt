@@ -21,7 +21,7 @@ use words::{four_at, put_four, put_word, word_at};
 
 // What follows a name: another name is due at a place, with so many brackets open, after so many bars; the text ends, after so many bars; or it
 // stops being a term at a place.
-#[derive(Drop)]
+#[derive(Clone, Copy)]
 pub enum After {
     Name(usize, usize, usize),
     Ends(usize),
@@ -30,7 +30,7 @@ pub enum After {
 
 // What reading a text finds: where it stops being a term; that it is one, and where the first name that is not listed begins; or how many entries
 // its tree has.
-#[derive(Drop)]
+#[derive(Clone, Copy)]
 pub enum Pass {
     Breaks(usize),
     Unlisted(usize),

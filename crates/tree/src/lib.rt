@@ -7,14 +7,14 @@ ghost use Rattle.tree.specs.Reading.{fresh, not_a_tree, step_of, end_of, Decides
 use model::{Kind, Refusal, refuse};
 
 // How many nodes are open, and how many entries were read: the place of the next one.
-#[derive(Drop)]
+#[derive(Clone, Copy)]
 pub struct Reading {
     pub depth: usize,
     pub place: usize,
 }
 
 // The entry opens a node, closes one, or is refused.
-#[derive(Drop)]
+#[derive(Clone, Copy)]
 pub enum Step {
     Opens(Reading),
     Closes(Reading),
@@ -22,7 +22,7 @@ pub enum Step {
 }
 
 // The list is a tree, or is refused by 12 or 13.
-#[derive(Drop)]
+#[derive(Clone, Copy)]
 pub enum Form {
     Tree,
     Refuses(Refusal),

@@ -28,14 +28,14 @@ const ACCEPTING: [u16; 2] = [2, 4];
 const NAMES: [u8; 4] = [b'a', b'\n', b'b', b'\n'];
 
 // The line so far, or a write failed.
-#[derive(Drop)]
+#[derive(Clone, Copy)]
 enum Put {
     Kept(Line),
     Broken,
 }
 
 // How a run ends: the input has ended and all is answered; a read failed; a write failed; or there were more reads than can be counted.
-#[derive(Drop)]
+#[derive(Clone, Copy)]
 enum Ending {
     Done,
     ReadFailed,
@@ -44,7 +44,7 @@ enum Ending {
 }
 
 // After a read: the input goes on, or the run ends.
-#[derive(Drop)]
+#[derive(Clone, Copy)]
 enum Turn {
     On(Line),
     Stop(Ending),

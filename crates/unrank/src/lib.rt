@@ -11,7 +11,7 @@ use chains::wide;
 use model::{Answer, Kind, refused_answer};
 
 // The row in which a value falls: its word, what it counts, and the value less what the state's earlier rows count.
-#[derive(Drop)]
+#[derive(Clone, Copy)]
 struct Entered {
     word: u64,
     weight: u64,
@@ -19,7 +19,7 @@ struct Entered {
 }
 
 // A child: its state and its value; the product of the counts of the children after it, and what is left of the value for them.
-#[derive(Drop)]
+#[derive(Clone, Copy)]
 struct Child {
     state: usize,
     value: u64,
@@ -28,7 +28,7 @@ struct Child {
 }
 
 // A state and a value in it.
-#[derive(Drop)]
+#[derive(Clone, Copy)]
 struct Spot {
     state: usize,
     value: u64,

@@ -17,7 +17,7 @@ use model::Kind;
 const LENGTH_LIMIT: u64 = 4096;
 
 // The first faulty state, or nothing.
-#[derive(Drop)]
+#[derive(Clone, Copy)]
 pub enum StateFault {
     At(usize, Kind),
     Nothing,
