@@ -144,7 +144,7 @@ fn say_reason(stdio: &Stdio, reason: &io::Error) {
     }
 }
 
-// Says a line on standard error.
+// Says the bytes on standard error.
 pub fn say(stdio: &Stdio, line: &[u8]) {
     let mut errors = stdio.errors;
     let _ = errors.write_all(line);

@@ -20,9 +20,9 @@ pub loop-p-init : goal.loop-p-init
 loop-p-init c = (omega (arith, c.wide-p.ensures, (begins c.requires).within), λ s. rw c.wide-p.ensures (begins s))
 
 pub returns-then-row_is : goal.returns-then-row_is
-returns-then-row_is c = let low : c.loop-p.p - 1 < c.args.n = omega (arith, c.loop-p.invariant.0, c.loop-p-test.true) in
+returns-then-row_is c =
     let told = sym c.row_is.ensures ∙ c.if-row_is.true in
-    sought_there _ _ _ _ (walk_finds _ _ _ c.loop-p.p (c.loop-p.invariant.1 c.requires) c.loop-p-test.true told (no_earlier _ c.requires.by (length c.args.heads.now) _ _ _ c.requires.index.distinct _ (low) told))
+    sought_there _ _ _ _ (walk_finds _ _ _ c.loop-p.p (c.loop-p.invariant.1 c.requires) c.loop-p-test.true told (no_earlier _ c.requires.by (length c.args.heads.now) _ _ _ c.requires.index.distinct _ (omega (arith, c.loop-p.invariant.0, c.loop-p-test.true)) told))
 
 pub loop-p-preserved : goal.loop-p-preserved
 loop-p-preserved c = let low : c.loop-p.p - 1 < c.args.n = omega (arith, c.loop-p.invariant.0, c.loop-p-test.true) in let link : c.next_in-p.result ≤ c.loop-p.p - 1 = omega (arith, c.next_in-p.ensures, next_at c.args.words.now (c.loop-p.p - 1) (omega (arith, low, c.requires.held.long)), (c.requires.index.chains.next_link (c.loop-p.p - 1) (low)).within) in

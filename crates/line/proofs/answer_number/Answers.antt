@@ -1,15 +1,15 @@
 use native.Mathlib.Omega.{arith}
-use Prim.Native.Nat.{◌≤◌}
 use lib.Seq.{length-take-le}
 use mathlib.Core.Path.{sym}
 use Rattle.line.proofs.Outcomes.{wrote_fits, term_shown, term_turned}
 use Rattle.line.proofs.answer_number.Goals as goal
 
 pub slice_bounds-put_term-end : goal.slice_bounds-put_term-end
-slice_bounds-put_term-end c = let fits : c.in-Result.count ≤ 4096 = wrote_fits c.write.ensures c.requires.tree_len _ c.in-Result.is in omega (arith, fits, c.write.auto.tree, c.requires.tree_len)
+slice_bounds-put_term-end c = omega (arith, (wrote_fits c.write.ensures c.requires.tree_len _ c.in-Result.is), c.write.auto.tree, c.requires.tree_len)
 
 pub slice_bounds-put_term-end-in-Result : goal.slice_bounds-put_term-end-in-Result
-slice_bounds-put_term-end-in-Result c = let fits : c.in-Result.count ≤ 4096 = wrote_fits c.write.ensures c.requires.tree_len _ c.in-Result.is in sym (length-take-le _ _ (omega (arith, fits, c.write.auto.tree, c.requires.tree_len)))
+slice_bounds-put_term-end-in-Result c =
+    sym (length-take-le _ _ (omega (arith, (wrote_fits c.write.ensures c.requires.tree_len _ c.in-Result.is), c.write.auto.tree, c.requires.tree_len)))
 
 pub returns-in-Result : goal.returns-in-Result
 returns-in-Result c = term_shown c.write.ensures c.requires.tree_len _ _ _ _ c.in-Result.is c.put_term.ensures

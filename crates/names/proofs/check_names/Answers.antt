@@ -2,8 +2,7 @@ use Prim.Native.Nat.{◌-◌}
 use native.Mathlib.Omega.{arith}
 use mathlib.Core.Path.{◌≡◌, sym, ap, ◌∙◌}
 use lib.ListN.{take, drop}
-use Rattle.chains.specs.declared.Found.TheVariants.{At}
-use Rattle.names.specs.NamesIndex.{name_end, hash_of}
+use Rattle.names.specs.NamesIndex.{hash_of}
 use Rattle.names.proofs.Lines.{too_many_lem, no_name, fits, stretch_part, part_inner, again, entered, short_end, no_lines_at_all, faulty_line, sound_list}
 use Rattle.names.proofs.check_names.Goals as goal
 
@@ -14,35 +13,35 @@ pub returns-in_default : goal.returns-in_default
 returns-in_default c = faulty_line _ (no_name c.loop-at.invariant c.loop-at-test.true (sym c.name_end.ensures ∙ c.in_default.is))
 
 pub slice_bounds-find_name-count : goal.slice_bounds-find_name-count
-slice_bounds-find_name-count c = let told : name_end c.args.names.now c.loop-at.at ≡ At c.in-At.end = sym c.name_end.ensures ∙ c.in-At.is in omega (arith, (fits c.loop-at.invariant c.loop-at-test.true _ told).1)
+slice_bounds-find_name-count c = omega (arith, (fits c.loop-at.invariant c.loop-at-test.true _ (sym c.name_end.ensures ∙ c.in-At.is)).1)
 
 pub slice_bounds-find_name-start : goal.slice_bounds-find_name-start
-slice_bounds-find_name-start c = let told : name_end c.args.names.now c.loop-at.at ≡ At c.in-At.end = sym c.name_end.ensures ∙ c.in-At.is in omega (arith, fits c.loop-at.invariant c.loop-at-test.true _ told)
+slice_bounds-find_name-start c = omega (arith, fits c.loop-at.invariant c.loop-at-test.true _ (sym c.name_end.ensures ∙ c.in-At.is))
 
 pub slice_bounds-find_name-end : goal.slice_bounds-find_name-end
-slice_bounds-find_name-end c = let told : name_end c.args.names.now c.loop-at.at ≡ At c.in-At.end = sym c.name_end.ensures ∙ c.in-At.is in omega (arith, fits c.loop-at.invariant c.loop-at-test.true _ told)
+slice_bounds-find_name-end c = omega (arith, fits c.loop-at.invariant c.loop-at-test.true _ (sym c.name_end.ensures ∙ c.in-At.is))
 
 pub find_name-requires : goal.find_name-requires
-find_name-requires c = let told : name_end c.args.names.now c.loop-at.at ≡ At c.in-At.end = sym c.name_end.ensures ∙ c.in-At.is in
+find_name-requires c =
     let hashed : c.stretch_at-stretch.result.bucket ≡ hash_of c.args.seed (take (c.in-At.end - c.loop-at.at) (drop c.loop-at.at c.args.names.now)) =
-    c.stretch_at-stretch.ensures.hashed ∙ ap (hash_of c.args.seed) (stretch_part c.loop-at.invariant c.loop-at-test.true _ told) in
-    record { sought = record { seed = c.args.seed; indexed = c.loop-at.invariant.known; hashed = hashed; below = c.stretch_at-stretch.ensures.below }; name_value = part_inner c.loop-at.invariant c.loop-at-test.true _ told }
+    c.stretch_at-stretch.ensures.hashed ∙ ap (hash_of c.args.seed) (stretch_part c.loop-at.invariant c.loop-at-test.true _ (sym c.name_end.ensures ∙ c.in-At.is)) in
+    record { sought = record { seed = c.args.seed; indexed = c.loop-at.invariant.known; hashed = hashed; below = c.stretch_at-stretch.ensures.below }; name_value = part_inner c.loop-at.invariant c.loop-at-test.true _ (sym c.name_end.ensures ∙ c.in-At.is) }
 
 pub returns-in-At-find_name : goal.returns-in-At-find_name
-returns-in-At-find_name c = let told : name_end c.args.names.now c.loop-at.at ≡ At c.in-At.end = sym c.name_end.ensures ∙ c.in-At.is in
-    faulty_line _ (again c.loop-at.invariant c.loop-at-test.true _ told _ (sym c.find_name.ensures ∙ c.in-At-find_name.is))
+returns-in-At-find_name c =
+    faulty_line _ (again c.loop-at.invariant c.loop-at-test.true _ (sym c.name_end.ensures ∙ c.in-At.is) _ (sym c.find_name.ensures ∙ c.in-At-find_name.is))
 
 pub overflow_cast-starts : goal.overflow_cast-starts
-overflow_cast-starts c = let told : name_end c.args.names.now c.loop-at.at ≡ At c.in-At.end = sym c.name_end.ensures ∙ c.in-At.is in omega (arith, short_end c.loop-at.invariant c.loop-at-test.true _ told, c.if-n-ge255.false)
+overflow_cast-starts c = omega (arith, short_end c.loop-at.invariant c.loop-at-test.true _ (sym c.name_end.ensures ∙ c.in-At.is), c.if-n-ge255.false)
 
 pub loop-at-smaller : goal.loop-at-smaller
-loop-at-smaller c = let told : name_end c.args.names.now c.loop-at.at ≡ At c.in-At.end = sym c.name_end.ensures ∙ c.in-At.is in omega (arith, fits c.loop-at.invariant c.loop-at-test.true _ told)
+loop-at-smaller c = omega (arith, fits c.loop-at.invariant c.loop-at-test.true _ (sym c.name_end.ensures ∙ c.in-At.is))
 
 pub loop-at-preserved : goal.loop-at-preserved
-loop-at-preserved c = let told : name_end c.args.names.now c.loop-at.at ≡ At c.in-At.end = sym c.name_end.ensures ∙ c.in-At.is in
+loop-at-preserved c =
     let hashed : c.stretch_at-stretch.result.bucket ≡ hash_of c.args.seed (take (c.in-At.end - c.loop-at.at) (drop c.loop-at.at c.args.names.now)) =
-    c.stretch_at-stretch.ensures.hashed ∙ ap (hash_of c.args.seed) (stretch_part c.loop-at.invariant c.loop-at-test.true _ told) in
-    entered c.loop-at.invariant c.loop-at-test.true _ told c.if-n-ge255.false _ hashed c.stretch_at-stretch.ensures.below (sym c.find_name.ensures ∙ c.in_default-find_name.is)
+    c.stretch_at-stretch.ensures.hashed ∙ ap (hash_of c.args.seed) (stretch_part c.loop-at.invariant c.loop-at-test.true _ (sym c.name_end.ensures ∙ c.in-At.is)) in
+    entered c.loop-at.invariant c.loop-at-test.true _ (sym c.name_end.ensures ∙ c.in-At.is) c.if-n-ge255.false _ hashed c.stretch_at-stretch.ensures.below (sym c.find_name.ensures ∙ c.in_default-find_name.is)
 
 pub returns-then-n-eq0 : goal.returns-then-n-eq0
 returns-then-n-eq0 c = faulty_line _ (no_lines_at_all c.loop-at.invariant c.loop-at-test.false c.if-n-eq0.true)

@@ -21,7 +21,8 @@ returns-then-n-lt8 c =
     }
 
 pub loop-at-smaller : goal.loop-at-smaller
-loop-at-smaller c = let there : c.loop-at.i + 8 ≤ length c.args.bytes.now = goes_within c.args.bytes.now c.loop-at.i _ (λ k l. omega (arith, c.type_inv.bytes k)) c.word_or_rest-w.ensures _ c.inner_ahead-n.ensures c.if-n-lt8.false in omega (arith, there)
+loop-at-smaller c =
+    omega (arith, (goes_within c.args.bytes.now c.loop-at.i _ (λ k l. omega (arith, c.type_inv.bytes k)) c.word_or_rest-w.ensures _ c.inner_ahead-n.ensures c.if-n-lt8.false))
 
 pub loop-at-preserved : goal.loop-at-preserved
 loop-at-preserved c =

@@ -1,24 +1,19 @@
 use native.Mathlib.Omega.{arith}
-use Prim.Native.Nat.{◌<◌}
-use mathlib.Core.Path.{◌≡◌, sym, ◌∙◌}
-use lib.ListN.{length}
-use Rattle.chains.specs.declared.Found.TheVariants.{At}
-use Rattle.rows.specs.Words.{rows_in}
-use Rattle.index.specs.Index.{row_found}
+use mathlib.Core.Path.{sym, ◌∙◌}
 use Rattle.rank.proofs.Folding.{found_inside, node_forms, node_reaches, node_stuck}
 use Rattle.rank.proofs.close.Goals as goal
 
 pub offset_bounds-words-k : goal.offset_bounds-words-k
-offset_bounds-words-k c = let found : row_found (rows_in c.args.pool.now c.args.words.now) c.args.symbol c.args.states.now ≡ At c.in-At.k = sym c.find_row.ensures ∙ c.in-At.is in let inside : c.in-At.k < length c.args.words.now = found_inside c.args.pool.now c.args.words.now _ _ _ (found) in omega (arith, inside, c.requires.held.many)
+offset_bounds-words-k c = omega (arith, found_inside c.args.pool.now c.args.words.now _ _ _ (sym c.find_row.ensures ∙ c.in-At.is), c.requires.held.many)
 
 pub bounds-words-k : goal.bounds-words-k
-bounds-words-k c = let found : row_found (rows_in c.args.pool.now c.args.words.now) c.args.symbol c.args.states.now ≡ At c.in-At.k = sym c.find_row.ensures ∙ c.in-At.is in let inside : c.in-At.k < length c.args.words.now = found_inside c.args.pool.now c.args.words.now _ _ _ (found) in inside
+bounds-words-k c = found_inside c.args.pool.now c.args.words.now _ _ _ (sym c.find_row.ensures ∙ c.in-At.is)
 
 pub value_in-requires : goal.value_in-requires
-value_in-requires c = let found : row_found (rows_in c.args.pool.now c.args.words.now) c.args.symbol c.args.states.now ≡ At c.in-At.k = sym c.find_row.ensures ∙ c.in-At.is in node_forms c.args.pool.now c.args.words.now _ _ _ (found) c.args.counts.now c.args.sums.now c.args.values.now c.requires.closable _ c.target_in-q.ensures
+value_in-requires c = node_forms c.args.pool.now c.args.words.now _ _ _ (sym c.find_row.ensures ∙ c.in-At.is) c.args.counts.now c.args.sums.now c.args.values.now c.requires.closable _ c.target_in-q.ensures
 
 pub returns-in-At : goal.returns-in-At
-returns-in-At c = let found : row_found (rows_in c.args.pool.now c.args.words.now) c.args.symbol c.args.states.now ≡ At c.in-At.k = sym c.find_row.ensures ∙ c.in-At.is in node_reaches c.args.pool.now c.args.words.now _ _ _ (found) c.args.counts.now c.args.sums.now c.args.values.now _ _ c.target_in-q.ensures c.value_in.ensures
+returns-in-At c = node_reaches c.args.pool.now c.args.words.now _ _ _ (sym c.find_row.ensures ∙ c.in-At.is) c.args.counts.now c.args.sums.now c.args.values.now _ _ c.target_in-q.ensures c.value_in.ensures
 
 pub returns-in-Nothing : goal.returns-in-Nothing
 returns-in-Nothing c = node_stuck _ _ _ _ _ _ (sym c.find_row.ensures ∙ c.in-Nothing.is)

@@ -1,7 +1,6 @@
 -- Past the first test the row is whole.
 use mathlib.Core.Path.{sym, ◌∙◌}
 use native.Mathlib.Omega.{arith}
-use Rattle.model.specs.Table.{Whole}
 use Rattle.model.proofs.Checked.{not_cut}
 use Rattle.rows.specs.Walk.{row_step}
 use Rattle.rows.proofs.Walk.{whole_step}
@@ -12,10 +11,10 @@ unfolding row_step
 returns-then-is_cut c = simp (sym c.is_cut.ensures ∙ c.if-is_cut.true)
 
 pub bounds-rows-at-2 : goal.bounds-rows-at-2
-bounds-rows-at-2 c = let whole : Whole c.args.rows.now c.args.at = not_cut _ _ (sym c.is_cut.ensures ∙ c.if-is_cut.false) in omega (arith, whole)
+bounds-rows-at-2 c = omega (arith, (not_cut _ _ (sym c.is_cut.ensures ∙ c.if-is_cut.false)))
 
 pub args_at-requires : goal.args_at-requires
-args_at-requires c = let whole : Whole c.args.rows.now c.args.at = not_cut _ _ (sym c.is_cut.ensures ∙ c.if-is_cut.false) in whole
+args_at-requires c = not_cut _ _ (sym c.is_cut.ensures ∙ c.if-is_cut.false)
 
 pub returns : goal.returns
 returns c =

@@ -1,8 +1,6 @@
 -- One ground after the other, in the order of document 01.
-use Prim.Native.Nat.{◌≤◌}
 use mathlib.Core.Path.{refl, ◌∙◌}
 use native.Mathlib.Omega.{arith}
-use lib.ListN.{length}
 use Rattle.model.proofs.Numbers.{kind_positive}
 use Rattle.table.proofs.Outcomes.{too_many_lem, row_refused, entry_refused, refused_answer, states_ready, total_refused, total_passed}
 use Rattle.table.proofs.Taken.{taken_fine, taken_room}
@@ -12,12 +10,13 @@ pub returns-then-states-gt256 : goal.returns-then-states-gt256
 returns-then-states-gt256 c = refused_answer _ (c.refuse.ensures ∙ too_many_lem _ _ _ c.if-states-gt256.true)
 
 pub slice_bounds-check_states-end : goal.slice_bounds-check_states-end
-slice_bounds-check_states-end c = let room : c.in-Passed.n ≤ length c.args.words.now = taken_room _ (c.check_rows.ensures.passed _ _ c.in-Passed.is) c.args.words.now c.words-1.given in omega (arith, room, c.words-1.given)
+slice_bounds-check_states-end c =
+    omega (arith, (taken_room _ (c.check_rows.ensures.passed _ _ c.in-Passed.is) c.args.words.now c.words-1.given), c.words-1.given)
 
 pub check_states-requires : goal.check_states-requires
-check_states-requires c = let room : c.in-Passed.n ≤ length c.args.words.now = taken_room _ (c.check_rows.ensures.passed _ _ c.in-Passed.is) c.args.words.now c.words-1.given in
+check_states-requires c =
     states_ready _ _ _ c.if-states-gt256.false (c.check_rows.ensures.passed _ _ c.in-Passed.is)
-    (c.faulty_entry.ensures.none c.in-Nothing.is) c.requires room
+    (c.faulty_entry.ensures.none c.in-Nothing.is) c.requires (taken_room _ (c.check_rows.ensures.passed _ _ c.in-Passed.is) c.args.words.now c.words-1.given)
 
 pub returns-in-Stopped : goal.returns-in-Stopped
 returns-in-Stopped c =

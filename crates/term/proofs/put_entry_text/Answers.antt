@@ -1,9 +1,8 @@
 use native.Mathlib.Omega.{arith}
-use Prim.Native.Nat.{ℕ, ◌+◌, ◌≤◌}
+use Prim.Native.Nat.{ℕ}
 use mathlib.Core.Path.{◌≡◌, sym, ap, ◌∙◌}
 use mathlib.Core.List.{List, ◌∷◌}
 use lib.ListN.{length, length-set}
-use Rattle.model.specs.Names.{name_of}
 use Rattle.term.specs.Emit.{entry_text}
 use Rattle.term.proofs.Pieces.{put_one, put_none}
 use Rattle.term.proofs.EntryText.{letter_close, letter_bar, letter_name, letter_mark, name_line, marked}
@@ -21,16 +20,21 @@ returns-then-e-eq0 c = let e = letter_bar c.args.names.now _ _ c.if-e-eq0.true c
     rw e (put_none _ _ (omega (arith, ap length e, c.requires.e_in_bounds)))
 
 pub put_bytes-requires : goal.put_bytes-requires
-put_bytes-requires c = let name : c.name_at-name.result.now ≡ name_of c.args.names.now c.args.e = c.name_at-name.ensures ∙ name_line _ _ _ c.wide.ensures in let plain : entry_text c.args.names.now c.args.mark c.args.e ≡ c.name_at-name.result.now = letter_name _ _ _ c.if-e-eq0.false c.if-mark-eq0.true ∙ sym (name) in omega (arith, ap length (plain), c.requires.e_in_bounds)
+put_bytes-requires c =
+    omega (arith, ap length (letter_name _ _ _ c.if-e-eq0.false c.if-mark-eq0.true ∙ sym (c.name_at-name.ensures ∙ name_line _ _ _ c.wide.ensures)), c.requires.e_in_bounds)
 
 pub returns-then-mark-eq0 : goal.returns-then-mark-eq0
-returns-then-mark-eq0 c = let name : c.name_at-name.result.now ≡ name_of c.args.names.now c.args.e = c.name_at-name.ensures ∙ name_line _ _ _ c.wide.ensures in let plain : entry_text c.args.names.now c.args.mark c.args.e ≡ c.name_at-name.result.now = letter_name _ _ _ c.if-e-eq0.false c.if-mark-eq0.true ∙ sym (name) in rw (plain) c.put_bytes.ensures
+returns-then-mark-eq0 c =
+    rw (letter_name _ _ _ c.if-e-eq0.false c.if-mark-eq0.true ∙ sym (c.name_at-name.ensures ∙ name_line _ _ _ c.wide.ensures)) c.put_bytes.ensures
 
 pub bounds-text-at-2 : goal.bounds-text-at-2
-bounds-text-at-2 c = let name : c.name_at-name.result.now ≡ name_of c.args.names.now c.args.e = c.name_at-name.ensures ∙ name_line _ _ _ c.wide.ensures in let with-mark : entry_text c.args.names.now c.args.mark c.args.e ≡ c.args.mark ∷ c.name_at-name.result.now = letter_mark _ _ _ c.if-e-eq0.false c.if-mark-eq0.false ∙ ap (λ (x : List ℕ). c.args.mark ∷ x) (sym (name)) in let room : c.args.at + length (c.args.mark ∷ c.name_at-name.result.now) ≤ length c.args.text.now = rw (with-mark) at c.requires.e_in_bounds in omega (arith, room)
+bounds-text-at-2 c =
+    omega (arith, (rw (letter_mark _ _ _ c.if-e-eq0.false c.if-mark-eq0.false ∙ ap (λ (x : List ℕ). c.args.mark ∷ x) (sym (c.name_at-name.ensures ∙ name_line _ _ _ c.wide.ensures))) at c.requires.e_in_bounds))
 
 pub put_bytes-requires-2 : goal.put_bytes-requires-2
-put_bytes-requires-2 c = let name : c.name_at-name.result.now ≡ name_of c.args.names.now c.args.e = c.name_at-name.ensures ∙ name_line _ _ _ c.wide.ensures in let with-mark : entry_text c.args.names.now c.args.mark c.args.e ≡ c.args.mark ∷ c.name_at-name.result.now = letter_mark _ _ _ c.if-e-eq0.false c.if-mark-eq0.false ∙ ap (λ (x : List ℕ). c.args.mark ∷ x) (sym (name)) in let room : c.args.at + length (c.args.mark ∷ c.name_at-name.result.now) ≤ length c.args.text.now = rw (with-mark) at c.requires.e_in_bounds in omega (arith, room, length-set c.args.text.now c.args.at c.args.mark)
+put_bytes-requires-2 c =
+    omega (arith, (rw (letter_mark _ _ _ c.if-e-eq0.false c.if-mark-eq0.false ∙ ap (λ (x : List ℕ). c.args.mark ∷ x) (sym (c.name_at-name.ensures ∙ name_line _ _ _ c.wide.ensures))) at c.requires.e_in_bounds), length-set c.args.text.now c.args.at c.args.mark)
 
 pub returns : goal.returns
-returns c = let name : c.name_at-name.result.now ≡ name_of c.args.names.now c.args.e = c.name_at-name.ensures ∙ name_line _ _ _ c.wide.ensures in let with-mark : entry_text c.args.names.now c.args.mark c.args.e ≡ c.args.mark ∷ c.name_at-name.result.now = letter_mark _ _ _ c.if-e-eq0.false c.if-mark-eq0.false ∙ ap (λ (x : List ℕ). c.args.mark ∷ x) (sym (name)) in let room : c.args.at + length (c.args.mark ∷ c.name_at-name.result.now) ≤ length c.args.text.now = rw (with-mark) at c.requires.e_in_bounds in rw (with-mark) (marked _ _ _ _ _ _ (room) c.put_bytes-2.ensures)
+returns c =
+    let with-mark : entry_text c.args.names.now c.args.mark c.args.e ≡ c.args.mark ∷ c.name_at-name.result.now = letter_mark _ _ _ c.if-e-eq0.false c.if-mark-eq0.false ∙ ap (λ (x : List ℕ). c.args.mark ∷ x) (sym (c.name_at-name.ensures ∙ name_line _ _ _ c.wide.ensures)) in rw (with-mark) (marked _ _ _ _ _ _ (rw (with-mark) at c.requires.e_in_bounds) c.put_bytes-2.ensures)

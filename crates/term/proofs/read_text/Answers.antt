@@ -6,7 +6,7 @@ use Rattle.names.specs.NamesIndex.{all_inner, hash_of}
 use Rattle.names.proofs.Bytes.{stretch_inner}
 use Rattle.names.proofs.Lines.{part_stretch}
 use Rattle.term.proofs.Runs.{end_byte}
-use Rattle.term.proofs.Going.{NameFound, go_first, go_unlisted, found_name, line_below, go_name, go_taken, go_breaks}
+use Rattle.term.proofs.Going.{go_first, go_unlisted, found_name, line_below, go_name, go_taken, go_breaks}
 use Rattle.term.proofs.read_text.Goals as goal
 
 pub loop-k-init : goal.loop-k-init
@@ -21,29 +21,41 @@ pub returns-in-Nothing : goal.returns-in-Nothing
 returns-in-Nothing c = rw c.unlisted.ensures (go_unlisted c.loop-k.invariant _ _ c.requires.n_value c.stretch_at-stretch.ensures.ends (sym c.find_name.ensures ∙ c.in-Nothing.is))
 
 pub overflow_add-k : goal.overflow_add-k
-overflow_add-k c = let found : let st = c.args in let lp = c.loop-k in NameFound st.names.now st.text.now lp.entries lp.at lp.depth lp.i c.stretch_at-stretch.result.end st.n c.in-At.k = found_name c.loop-k.invariant c.args.n c.in-At.k c.stretch_at-stretch.result.end c.requires.n_value c.stretch_at-stretch.ensures.ends c.stretch_at-stretch.ensures.within
-    (λ j l. (c.requires.names_indexed.lined.stands j l).named) (sym c.find_name.ensures ∙ c.in-At.is) in let low : c.in-At.k < 255 = omega (arith, c.requires.names_indexed.lined.few, line_below (found)) in omega (arith, low)
+overflow_add-k c =
+    let found = found_name c.loop-k.invariant c.args.n c.in-At.k c.stretch_at-stretch.result.end c.requires.n_value c.stretch_at-stretch.ensures.ends c.stretch_at-stretch.ensures.within
+    (λ j l. (c.requires.names_indexed.lined.stands j l).named) (sym c.find_name.ensures ∙ c.in-At.is) in
+    let low : c.in-At.k < 255 = omega (arith, c.requires.names_indexed.lined.few, line_below found) in
+    omega (arith, low)
 
 pub overflow_cast-k : goal.overflow_cast-k
-overflow_cast-k c = let found : let st = c.args in let lp = c.loop-k in NameFound st.names.now st.text.now lp.entries lp.at lp.depth lp.i c.stretch_at-stretch.result.end st.n c.in-At.k = found_name c.loop-k.invariant c.args.n c.in-At.k c.stretch_at-stretch.result.end c.requires.n_value c.stretch_at-stretch.ensures.ends c.stretch_at-stretch.ensures.within
-    (λ j l. (c.requires.names_indexed.lined.stands j l).named) (sym c.find_name.ensures ∙ c.in-At.is) in let low : c.in-At.k < 255 = omega (arith, c.requires.names_indexed.lined.few, line_below (found)) in omega (arith, low)
+overflow_cast-k c =
+    let found = found_name c.loop-k.invariant c.args.n c.in-At.k c.stretch_at-stretch.result.end c.requires.n_value c.stretch_at-stretch.ensures.ends c.stretch_at-stretch.ensures.within
+    (λ j l. (c.requires.names_indexed.lined.stands j l).named) (sym c.find_name.ensures ∙ c.in-At.is) in
+    let low : c.in-At.k < 255 = omega (arith, c.requires.names_indexed.lined.few, line_below found) in
+    omega (arith, low)
 
 pub after_name-requires : goal.after_name-requires
-after_name-requires c = let found : let st = c.args in let lp = c.loop-k in NameFound st.names.now st.text.now lp.entries lp.at lp.depth lp.i c.stretch_at-stretch.result.end st.n c.in-At.k = found_name c.loop-k.invariant c.args.n c.in-At.k c.stretch_at-stretch.result.end c.requires.n_value c.stretch_at-stretch.ensures.ends c.stretch_at-stretch.ensures.within
+after_name-requires c =
+    let found = found_name c.loop-k.invariant c.args.n c.in-At.k c.stretch_at-stretch.result.end c.requires.n_value c.stretch_at-stretch.ensures.ends c.stretch_at-stretch.ensures.within
     (λ j l. (c.requires.names_indexed.lined.stands j l).named) (sym c.find_name.ensures ∙ c.in-At.is) in
-    let x = (found).read in
+    let x = found.read in
     (x.within, end_byte _ _ _ x.ends, omega (arith, x.going.shallow, x.going.within, x.going.short))
 
 pub returns-in-Breaks : goal.returns-in-Breaks
-returns-in-Breaks c = let found : let st = c.args in let lp = c.loop-k in NameFound st.names.now st.text.now lp.entries lp.at lp.depth lp.i c.stretch_at-stretch.result.end st.n c.in-At.k = found_name c.loop-k.invariant c.args.n c.in-At.k c.stretch_at-stretch.result.end c.requires.n_value c.stretch_at-stretch.ensures.ends c.stretch_at-stretch.ensures.within
-    (λ j l. (c.requires.names_indexed.lined.stands j l).named) (sym c.find_name.ensures ∙ c.in-At.is) in go_breaks (found) _ _ (c.after_name.ensures.breaks _ c.in-Breaks.is)
+returns-in-Breaks c =
+    let found = found_name c.loop-k.invariant c.args.n c.in-At.k c.stretch_at-stretch.result.end c.requires.n_value c.stretch_at-stretch.ensures.ends c.stretch_at-stretch.ensures.within
+    (λ j l. (c.requires.names_indexed.lined.stands j l).named) (sym c.find_name.ensures ∙ c.in-At.is) in
+    go_breaks found _ _ (c.after_name.ensures.breaks _ c.in-Breaks.is)
 
 pub returns-in-Ends : goal.returns-in-Ends
-returns-in-Ends c = let found : let st = c.args in let lp = c.loop-k in NameFound st.names.now st.text.now lp.entries lp.at lp.depth lp.i c.stretch_at-stretch.result.end st.n c.in-At.k = found_name c.loop-k.invariant c.args.n c.in-At.k c.stretch_at-stretch.result.end c.requires.n_value c.stretch_at-stretch.ensures.ends c.stretch_at-stretch.ensures.within
+returns-in-Ends c =
+    let found = found_name c.loop-k.invariant c.args.n c.in-At.k c.stretch_at-stretch.result.end c.requires.n_value c.stretch_at-stretch.ensures.ends c.stretch_at-stretch.ensures.within
     (λ j l. (c.requires.names_indexed.lined.stands j l).named) (sym c.find_name.ensures ∙ c.in-At.is) in
     let z = c.after_name.ensures.ends _ c.in-Ends.is in
-    go_taken (found) _ c.put_symbol.ensures _ z.0 z.1
+    go_taken found _ c.put_symbol.ensures _ z.0 z.1
 
 pub loop-k-preserved : goal.loop-k-preserved
-loop-k-preserved c = let found : let st = c.args in let lp = c.loop-k in NameFound st.names.now st.text.now lp.entries lp.at lp.depth lp.i c.stretch_at-stretch.result.end st.n c.in-At.k = found_name c.loop-k.invariant c.args.n c.in-At.k c.stretch_at-stretch.result.end c.requires.n_value c.stretch_at-stretch.ensures.ends c.stretch_at-stretch.ensures.within
-    (λ j l. (c.requires.names_indexed.lined.stands j l).named) (sym c.find_name.ensures ∙ c.in-At.is) in go_name (found) _ c.put_symbol.ensures _ _ _ (c.after_name.ensures.name _ _ _ c.in-Name.is)
+loop-k-preserved c =
+    let found = found_name c.loop-k.invariant c.args.n c.in-At.k c.stretch_at-stretch.result.end c.requires.n_value c.stretch_at-stretch.ensures.ends c.stretch_at-stretch.ensures.within
+    (λ j l. (c.requires.names_indexed.lined.stands j l).named) (sym c.find_name.ensures ∙ c.in-At.is) in
+    go_name found _ c.put_symbol.ensures _ _ _ (c.after_name.ensures.name _ _ _ c.in-Name.is)
