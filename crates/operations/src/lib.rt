@@ -8,7 +8,6 @@ ghost use Rattle.model.specs.Number.{number_outcome};
 ghost use Rattle.operations.specs.Answered.{task_prepares, Answered, WroteTree};
 
 use model::Answer;
-use table::Checked;
 
 // What is asked of a table: its total, the number of the tree that is lent, or the tree of a number.
 #[derive(Clone, Copy)]
@@ -61,27 +60,27 @@ fn answer_small(
         &mut used,
         &mut sums,
     ) {
-        Checked::Refuses(r) => Answer::Refused(r),
-        Checked::Sound(total, n, by) => match task {
-            Task::Check => Answer::Result(total),
+        Err(refusal) => Answer::Refused(refusal),
+        Ok(checked) => match task {
+            Task::Check => Answer::Result(checked.total),
             Task::Number => rank::number_prepared(
                 rows,
                 accepting,
                 tree,
-                &words[..n],
+                &words[..checked.rows],
                 &heads,
-                by,
+                checked.by,
                 &counts,
                 &sums,
             ),
             Task::Write(number) => unrank::write_prepared(
                 rows,
                 accepting,
-                &words[..n],
+                &words[..checked.rows],
                 &first,
                 &counts,
                 &sums,
-                total,
+                checked.total,
                 number,
                 out,
             ),
@@ -121,27 +120,27 @@ fn answer_middle(
         &mut used,
         &mut sums,
     ) {
-        Checked::Refuses(r) => Answer::Refused(r),
-        Checked::Sound(total, n, by) => match task {
-            Task::Check => Answer::Result(total),
+        Err(refusal) => Answer::Refused(refusal),
+        Ok(checked) => match task {
+            Task::Check => Answer::Result(checked.total),
             Task::Number => rank::number_prepared(
                 rows,
                 accepting,
                 tree,
-                &words[..n],
+                &words[..checked.rows],
                 &heads,
-                by,
+                checked.by,
                 &counts,
                 &sums,
             ),
             Task::Write(number) => unrank::write_prepared(
                 rows,
                 accepting,
-                &words[..n],
+                &words[..checked.rows],
                 &first,
                 &counts,
                 &sums,
-                total,
+                checked.total,
                 number,
                 out,
             ),
@@ -180,27 +179,27 @@ fn answer_full(
         &mut used,
         &mut sums,
     ) {
-        Checked::Refuses(r) => Answer::Refused(r),
-        Checked::Sound(total, n, by) => match task {
-            Task::Check => Answer::Result(total),
+        Err(refusal) => Answer::Refused(refusal),
+        Ok(checked) => match task {
+            Task::Check => Answer::Result(checked.total),
             Task::Number => rank::number_prepared(
                 rows,
                 accepting,
                 tree,
-                &words[..n],
+                &words[..checked.rows],
                 &heads,
-                by,
+                checked.by,
                 &counts,
                 &sums,
             ),
             Task::Write(number) => unrank::write_prepared(
                 rows,
                 accepting,
-                &words[..n],
+                &words[..checked.rows],
                 &first,
                 &counts,
                 &sums,
-                total,
+                checked.total,
                 number,
                 out,
             ),
