@@ -4,13 +4,6 @@
 ghost use Rattle.std.specs.Prelude.{◌≡◌};
 ghost use Rattle.chains.specs.Digest.{mixed_by};
 
-// The first number with a property, or nothing.
-#[derive(Clone, Copy)]
-pub enum Found {
-    At(usize),
-    Nothing,
-}
-
 pub fn wide(x: u16) -> usize
     ensures { result ≡ x }
 {

@@ -1,5 +1,5 @@
 -- Laws of entering a row: what its chain says of it, and one word and one row more. Assumes nothing.
-use Rattle.std.specs.Prelude.{Option, Some, None, is_some, Result, Ok, Err}
+use Rattle.std.specs.Prelude.{Option, is_some, Result, Ok, Err}
 use Prim.Native.Nat.{ℕ, ◌+◌, ◌*◌, ◌%◌, ◌<◌}
 use mathlib.Core.Path.{◌≡◌, refl, sym, ap, ◌∙◌}
 use mathlib.Core.Bool.{true, false}
@@ -9,9 +9,6 @@ use lib.ListN.{length, get_or, set}
 use lib.Seq.{get_or-set_same, get_or-set_other}
 use Rattle.model.specs.Choice.{any_below}
 use Rattle.model.specs.Table.{Row, row_is}
-use Rattle.chains.specs.declared.Found.{Found}
-use Rattle.chains.specs.declared.Found.TheVariants.{At, Nothing}
-use Rattle.chains.proofs.First.{is_at}
 use Rattle.rows.specs.Words.{a_row, word_of, next_in, nexts, row_in, row_held, Apart}
 use Rattle.rows.proofs.Words.{apart, row_of_lem, map_set}
 use Rattle.index.specs.declared.Crowded.{Crowded}
@@ -38,24 +35,14 @@ module _ {by most : ℕ} {pool words heads : List ℕ} {n symbol target from : �
   its_symbol = omega (arith, x.symbol_low)
 
   -- what is found says whether an earlier row has the symbol and the arguments
-  earlier : (f : Found) → f ≡ found_by (row_held pool words) n (key % 256) args → any_below n (λ j. row_is (row_held pool words j) symbol args) ≡ is_at f
+  earlier : (f : Option ℕ) → f ≡ found_by (row_held pool words) n (key % 256) args → any_below n (λ j. row_is (row_held pool words j) symbol args) ≡ is_some f
   earlier f e = earlier_by (row_held pool words) n symbol args f (rw its_symbol at e)
 
   pub enter_repeats : (f : Option ℕ) → o ≡ Ok f → is_some f ≡ true → EnteredRow by most pool words heads words heads n symbol target from args (Err Repeats)
-  enter_repeats None e t = cc
-  enter_repeats (Some k) e t = record {
-    enters = λ h. cc;
-    repeats = λ h. earlier (At k) (s.at k e);
-    crowds = λ h. cc;
-  }
+  enter_repeats f e t = record { enters = λ h. cc; repeats = λ h. earlier f (s.sought f e) ∙ t; crowds = λ h. cc }
 
   pub enter_crowded : (k : Crowded) → o ≡ Err k → EnteredRow by most pool words heads words heads n symbol target from args (Err EnterCrowded)
   enter_crowded k e = record { enters = λ h. cc; repeats = λ h. cc; crowds = λ h. s.crowded k e }
-
-  -- nothing is found where it is not some row
-  nothing_found : (f : Option ℕ) → o ≡ Ok f → is_some f ≡ false → o ≡ Ok None
-  nothing_found None e t = e
-  nothing_found (Some k) e t = cc
 
   module _ (f : Option ℕ) (e : o ≡ Ok f) (t : is_some f ≡ false) (b : ℕ) (lt : b < length heads) (bucket : b ≡ hash_of by (length heads) key args) (w : ℕ) (word_is : w ≡ word_of symbol (length args) target from (get_or heads b 0)) where
     parts : Apart w symbol (length args) target from (get_or heads b 0)
@@ -71,7 +58,7 @@ module _ {by most : ℕ} {pool words heads : List ℕ} {n symbol target from : �
     its_bucket = bucket ∙ ap (λ (k : ℕ). hash_of by (length heads) k args) is ∙ ap (row_bucket by (length heads)) (sym here)
 
     new : repeated_by row n ≡ false
-    new = repeated_is row n here ∙ (sym (earlier_same (row_held pool words) row n (put_other pool words n w) symbol args) ∙ earlier Nothing (s.nothing (nothing_found f e t)))
+    new = repeated_is row n here ∙ (sym (earlier_same (row_held pool words) row n (put_other pool words n w) symbol args) ∙ earlier f (s.sought f e) ∙ t)
 
     entered : IndexBy by (length heads) (length words) row (n + 1) (set heads b (n + 1)) (nexts (set words n w))
     entered =

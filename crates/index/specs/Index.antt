@@ -1,9 +1,7 @@
 -- The index of rows: the rows chained by bucket, however they are lent; and one row more. Assumes nothing: these are definitions.
-use Rattle.std.specs.Prelude.{ℕ, ◌+◌, ◌*◌, ◌/◌, ◌≤◌, ◌<◌, ◌≡◌, Bool, true, List, length, set, take, drop, Option, Some, None, Result, Ok, Err}
+use Rattle.std.specs.Prelude.{ℕ, ◌+◌, ◌*◌, ◌/◌, ◌≤◌, ◌<◌, ◌≡◌, Bool, true, List, length, set, take, drop, Option, None, Result, Ok, Err}
 use Rattle.model.specs.Choice.{any_below}
 use Rattle.model.specs.Table.{Row, row_is}
-use Rattle.chains.specs.declared.Found.{Found}
-use Rattle.chains.specs.declared.Found.TheVariants.{At, Nothing}
 use Rattle.chains.specs.First.{first_with}
 use Rattle.chains.specs.Chains.{Chains}
 use Rattle.rows.specs.Words.{row_no, nexts, row_held, Held, Apart}
@@ -13,7 +11,7 @@ use Rattle.index.specs.declared.EnterError.TheVariants.{Repeats, Crowded as Ente
 use Rattle.index.specs.Hash.{hash_of, Multiplier, Sized}
 
 -- rows given by number: the first of the first n with symbol s and arguments xs
-abbrev pub found_by : (ℕ → Row) → ℕ → ℕ → List ℕ → Found
+abbrev pub found_by : (ℕ → Row) → ℕ → ℕ → List ℕ → Option ℕ
 found_by row n s xs = first_with (λ k. row_is (row k) s xs) n
 
 -- "the symbol and arguments of an earlier row"
@@ -27,10 +25,10 @@ row_bucket by size r = hash_of by size (r.symbol + length r.args * 256) r.args
 -- the first n rows are chained by bucket, and none of them repeats another
 pub record IndexBy (by size room : ℕ) (row : ℕ → Row) (n : ℕ) (heads next : List ℕ) : Type 0 where
   pub chains : Chains (λ r. row_bucket by size (row r)) size room n heads next
-  pub distinct : first_with (repeated_by row) n ≡ Nothing
+  pub distinct : first_with (repeated_by row) n ≡ None
 
 -- the same of a list of rows, all of them
-abbrev pub row_found : List Row → ℕ → List ℕ → Found
+abbrev pub row_found : List Row → ℕ → List ℕ → Option ℕ
 row_found rows s xs = found_by (row_no rows) (length rows) s xs
 
 pub record Index (by : ℕ) (rows : List Row) (heads next : List ℕ) : Type 0 where
@@ -40,9 +38,8 @@ pub record Index (by : ℕ) (rows : List Row) (heads next : List ℕ) : Type 0 w
 
 -- the row with a symbol and arguments, if its chain is walked at most so many steps. Crowded is said only where there are at least so many rows;
 -- of when, nothing is promised: it costs time and no answer
-pub record SoughtRow (found : Found) (most n : ℕ) (r : Result (Option ℕ) Crowded) : Type 0 where
-  pub at : (k : ℕ) → r ≡ Ok (Some k) → At k ≡ found
-  pub nothing : r ≡ Ok None → Nothing ≡ found
+pub record SoughtRow (found : Option ℕ) (most n : ℕ) (r : Result (Option ℕ) Crowded) : Type 0 where
+  pub sought : (f : Option ℕ) → r ≡ Ok f → f ≡ found
   pub crowded : (e : Crowded) → r ≡ Err e → most ≤ n
 
 -- what a chain is walked from: the first n words hold rows, which are chained, and b is the bucket of the key and the arguments

@@ -9,7 +9,6 @@ ghost use Rattle.index.specs.Index.{found_by, row_found, Index, SoughtRow, Seeki
 ghost use Rattle.index.specs.Taken.{Takeable, Taken};
 ghost use Rattle.index.specs.declared.EnterError.TheVariants.{Crowded as EnterCrowded};
 
-use chains::Found;
 use model::{Kind, Refusal, refuse};
 
 // A chain of the index is longer than allowed.
@@ -127,21 +126,18 @@ pub fn find_row(
     by: u64,
     symbol: u16,
     args: &[u16],
-) -> Found
+) -> Option<usize>
     requires held { Held pool.now words.now (length words.now) }
     requires index { Index by (rows_in pool.now words.now) heads.now (nexts words.now) }
     ensures { result ≡ row_found (rows_in pool.now words.now) symbol args.now }
 {
     if 16 < args.len() || 255 < symbol {
-        return Found::Nothing;
+        return None;
     }
     let key = u64::from(symbol) + args.len() as u64 * 256;
     let b = hash(by, heads.len(), key, args);
     // no chain has more than 1,024 rows
-    match seek(pool, words, heads, words.len(), b, 2048, key, args).unwrap() {
-        Some(k) => Found::At(k),
-        None => Found::Nothing,
-    }
+    seek(pool, words, heads, words.len(), b, 2048, key, args).unwrap()
 }
 
 // Puts row n, whose arguments begin at `from` in the pool, behind the words of the rows before it, and enters it in their index, unless it

@@ -60,9 +60,9 @@ fn answer_small(
         &mut used,
         &mut sums,
     ) {
-        Err(refusal) => Answer::Refused(refusal),
+        Err(refusal) => Err(refusal),
         Ok(checked) => match task {
-            Task::Check => Answer::Result(checked.total),
+            Task::Check => Ok(checked.total),
             Task::Number => rank::number_prepared(
                 rows,
                 accepting,
@@ -120,9 +120,9 @@ fn answer_middle(
         &mut used,
         &mut sums,
     ) {
-        Err(refusal) => Answer::Refused(refusal),
+        Err(refusal) => Err(refusal),
         Ok(checked) => match task {
-            Task::Check => Answer::Result(checked.total),
+            Task::Check => Ok(checked.total),
             Task::Number => rank::number_prepared(
                 rows,
                 accepting,
@@ -179,9 +179,9 @@ fn answer_full(
         &mut used,
         &mut sums,
     ) {
-        Err(refusal) => Answer::Refused(refusal),
+        Err(refusal) => Err(refusal),
         Ok(checked) => match task {
-            Task::Check => Answer::Result(checked.total),
+            Task::Check => Ok(checked.total),
             Task::Number => rank::number_prepared(
                 rows,
                 accepting,

@@ -8,7 +8,6 @@ ghost use Rattle.counts.specs.States.{held, ArgsPlaced};
 ghost use Rattle.index.specs.Hash.{Multiplier};
 ghost use Rattle.table.specs.Checked.{Empty, CrowdReady, RowsReady, RowsChecked, EntriesChecked, total_or11, StatesReady, StatesAnswer, Blank, CheckAnswer};
 
-use chains::Found;
 use index::{TakeError, two};
 use model::{Answer, Kind, Refusal, refuse};
 use used::StateFault;
@@ -98,7 +97,7 @@ fn check_rows(
 }
 
 // The first accepting entry that is no state or equals an earlier one: 7.
-fn faulty_entry(states: u64, accepting: &[u16]) -> Found
+fn faulty_entry(states: u64, accepting: &[u16]) -> Option<usize>
     requires { states ≤ 256 }
     ensures { EntriesChecked states accepting.now result }
 {
@@ -106,11 +105,11 @@ fn faulty_entry(states: u64, accepting: &[u16]) -> Found
     for (i, entry) in accepting.iter().enumerate() {
         let q = usize::from(*entry);
         if states <= u64::from(*entry) || seen[q] {
-            return Found::At(i);
+            return Some(i);
         }
         seen[q] = true;
     }
-    Found::Nothing
+    None
 }
 
 // The total; or 11 where it is above the largest number of 64 bits.
@@ -120,9 +119,9 @@ fn total_of(accepting: &[u16], counts: &[u64]) -> Answer
 {
     let total = counts::sum_of(accepting, counts);
     if total.over != 0 {
-        return Answer::Refused(refuse(Kind::TotalAboveLimit, 0));
+        return Err(refuse(Kind::TotalAboveLimit, 0));
     }
-    Answer::Result(total.count)
+    Ok(total.count)
 }
 
 // The rest of the check, from the states on, where the rows and the accepting list are without fault. Unless it is to prepare for numbering, used
@@ -148,7 +147,7 @@ fn check_states(
     match used::settle(
         prepare, states, pool, accepting, &*words, &*first, counts, &*marks, used, sums,
     ) {
-        StateFault::At(q, kind) => Answer::Refused(refuse(kind, q as u64)),
+        StateFault::At(q, kind) => Err(refuse(kind, q as u64)),
         StateFault::Nothing => total_of(accepting, &*counts),
     }
 }
@@ -175,10 +174,10 @@ pub fn check_into(
         return Err(refuse(Kind::TooManyStates, 0));
     }
     let taken = check_rows(states, rows, words, heads)?;
-    if let Found::At(i) = faulty_entry(states, accepting) {
+    if let Some(i) = faulty_entry(states, accepting) {
         return Err(refuse(Kind::AcceptingEntry, i as u64));
     }
-    match check_states(
+    let total = check_states(
         prepare,
         states as usize,
         rows,
@@ -189,12 +188,10 @@ pub fn check_into(
         marks,
         used,
         sums,
-    ) {
-        Answer::Refused(refusal) => Err(refusal),
-        Answer::Result(total) => Ok(Checked {
-            total,
-            rows: taken.rows,
-            by: taken.by,
-        }),
-    }
+    )?;
+    Ok(Checked {
+        total,
+        rows: taken.rows,
+        by: taken.by,
+    })
 }

@@ -14,11 +14,11 @@ returns-in_err-taken c =
     let e : c.from_residual.result ≡ Err f = search rules in
     rw e (refused_answer f (row_refused _ _ _ c.if-states-gt256.false f.place _ (c.check_rows.ensures.stopped f c.in_err-taken.was) (kind_positive f.kind)))
 
-pub returns-in-At : goal.returns-in-At
-returns-in-At c =
+pub returns-in-Some : goal.returns-in-Some
+returns-in-Some c =
     refused_answer _
-    (c.refuse-in-At.ensures
-    ∙ entry_refused _ _ _ c.if-states-gt256.false (taken_fine _ (c.check_rows.ensures.passed _ c.in_ok-taken.was)) _ (c.faulty_entry.ensures.some _ c.in-At.is))
+    (c.refuse-in-Some.ensures
+    ∙ entry_refused _ _ _ c.if-states-gt256.false (taken_fine _ (c.check_rows.ensures.passed _ c.in_ok-taken.was)) _ (c.faulty_entry.ensures.some _ c.in-Some.is))
 
 pub slice_bounds-check_states-end : goal.slice_bounds-check_states-end
 slice_bounds-check_states-end c =
@@ -29,12 +29,14 @@ check_states-requires c =
     states_ready _ _ _ c.if-states-gt256.false (c.check_rows.ensures.passed _ c.in_ok-taken.was)
     (c.faulty_entry.ensures.none c.in_default.is) c.requires (taken_room _ (c.check_rows.ensures.passed _ c.in_ok-taken.was) c.args.words.now c.check_rows.auto.words)
 
-pub returns-in-Refused : goal.returns-in-Refused
-returns-in-Refused c =
-    total_refused _ _ _ c.if-states-gt256.false (c.check_rows.ensures.passed _ c.in_ok-taken.was)
-    (c.faulty_entry.ensures.none c.in_default.is) c.check_states.ensures _ c.in-Refused.is
+pub returns-in_err-total : goal.returns-in_err-total
+returns-in_err-total c =
+    let f = c.in_err-total.field-0.0 in
+    let e : c.from_residual-in_err-total.result ≡ Err f = search rules in
+    rw e (total_refused _ _ _ c.if-states-gt256.false (c.check_rows.ensures.passed _ c.in_ok-taken.was)
+    (c.faulty_entry.ensures.none c.in_default.is) c.check_states.ensures f c.in_err-total.was)
 
-pub returns-in-Result : goal.returns-in-Result
-returns-in-Result c =
+pub returns : goal.returns
+returns c =
     total_passed _ _ _ c.if-states-gt256.false (c.check_rows.ensures.passed _ c.in_ok-taken.was)
-    (c.faulty_entry.ensures.none c.in_default.is) c.check_states.ensures _ c.in-Result.is _ refl
+    (c.faulty_entry.ensures.none c.in_default.is) c.check_states.ensures _ c.in_ok-total.was _ refl
