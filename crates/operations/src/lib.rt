@@ -9,7 +9,6 @@ ghost use Rattle.rows.specs.Walk.{Room};
 ghost use Rattle.operations.specs.Answered.{task_prepares, Answered, WroteTree};
 
 use model::Answer;
-use table::Checked;
 
 // What is asked of a table: its total, the number of the tree that is lent, or the tree of a number.
 // (An enum, told apart in one match: as three closures, each would have to state again all that the check leaves.)
@@ -53,7 +52,7 @@ fn answer_in<const ROWS: usize, const STATES: usize, const HEADS: usize>(
     let mut marks = [0u64; STATES];
     let mut used = [0u8; STATES];
     let mut sums = [0u64; ROWS];
-    match table::check_into(
+    let checked = table::check_into(
         prepares(task),
         states,
         rows,
@@ -65,32 +64,30 @@ fn answer_in<const ROWS: usize, const STATES: usize, const HEADS: usize>(
         &mut marks,
         &mut used,
         &mut sums,
-    ) {
-        Checked::Refuses(r) => Err(r),
-        Checked::Sound(total, n, by) => match task {
-            Task::Check => Ok(total),
-            Task::Number => rank::number_prepared(
-                rows,
-                accepting,
-                tree,
-                &words[..n],
-                &heads,
-                by,
-                &counts,
-                &sums,
-            ),
-            Task::Write(number) => unrank::write_prepared(
-                rows,
-                accepting,
-                &words[..n],
-                &first,
-                &counts,
-                &sums,
-                total,
-                number,
-                out,
-            ),
-        },
+    )?;
+    match task {
+        Task::Check => Ok(checked.total),
+        Task::Number => rank::number_prepared(
+            rows,
+            accepting,
+            tree,
+            &words[..checked.rows],
+            &heads,
+            checked.by,
+            &counts,
+            &sums,
+        ),
+        Task::Write(number) => unrank::write_prepared(
+            rows,
+            accepting,
+            &words[..checked.rows],
+            &first,
+            &counts,
+            &sums,
+            checked.total,
+            number,
+            out,
+        ),
     }
 }
 
