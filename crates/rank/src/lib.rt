@@ -14,14 +14,7 @@ ghost use Rattle.rank.specs.RankReady.{Foldable, Formable, Closable, Summable, R
 
 use chains::Found;
 use model::{Answer, Kind, refused_answer};
-use tree::{Form, Reading, Step};
-
-// What closing a node gives: the state that the tree reaches and its value there; or that it reaches none.
-#[derive(Clone, Copy)]
-enum Node {
-    Reaches(u16, u64),
-    Stuck,
-}
+use tree::{Reading, Step};
 
 // The children's values as one: for each child from the first, multiply by the count of its state and add its value.
 fn fold(states: &[u16], values: &[u64], counts: &[u64]) -> u64
@@ -29,10 +22,8 @@ fn fold(states: &[u16], values: &[u64], counts: &[u64]) -> u64
     ensures { result ≡ horner (held counts.now) 0 states.now values.now }
 {
     let mut h: u64 = 0;
-    let mut i: usize = 0;
-    while i < states.len() {
-        h = h * counts[chains::wide(states[i])] + values[i];
-        i += 1;
+    for (i, q) in states.iter().enumerate() {
+        h = h * counts[usize::from(*q)] + values[i];
     }
     h
 }
@@ -42,13 +33,13 @@ fn value_in(counts: &[u64], sums: &[u64], states: &[u16], values: &[u64], k: usi
     requires { Formable counts.now sums.now states.now values.now k q }
     ensures { result ≡ formed counts.now sums.now states.now values.now k q }
 {
-    if counts[chains::wide(q)] == 0 {
+    if counts[usize::from(q)] == 0 {
         return 0;
     }
     fold(states, values, counts) + sums[k]
 }
 
-// The state and the value of a tree with this symbol, whose children have these states and values.
+// The state that a tree with this symbol reaches, whose children have these states and values, and its value there; or nothing if it reaches none.
 fn close(
     pool: &[u16],
     words: &[u64],
@@ -59,7 +50,7 @@ fn close(
     symbol: u16,
     states: &[u16],
     values: &[u64],
-) -> Node
+) -> Option<(u16, u64)>
     requires held { Held pool.now words.now (length words.now) }
     requires index { Index by (rows_in pool.now words.now) heads.now (nexts words.now) }
     requires closable { Closable (rows_in pool.now words.now) counts.now sums.now symbol states.now values.now }
@@ -69,9 +60,9 @@ fn close(
     match index::find_row(pool, words, heads, by, symbol, states) {
         Found::At(k) => {
             let q = rows::target_in(words[k]);
-            Node::Reaches(q, value_in(counts, sums, states, values, k, q))
+            Some((q, value_in(counts, sums, states, values, k, q)))
         }
-        Found::Nothing => Node::Stuck,
+        Found::Nothing => None,
     }
 }
 
@@ -82,14 +73,12 @@ fn number_in(accepting: &[u16], counts: &[u64], q: u16, value: u64, place: usize
     ensures { outcome result ≡ numbered accepting.now counts.now q value place }
 {
     let mut earlier: u64 = 0;
-    let mut i: usize = 0;
-    while i < accepting.len() {
-        if accepting[i] == q {
+    for a in accepting {
+        if *a == q {
             let number = value + earlier;
             return Answer::Result(number);
         }
-        earlier += counts[chains::wide(accepting[i])];
-        i += 1;
+        earlier += counts[usize::from(*a)];
     }
     refused_answer(Kind::NotAccepted, place as u64)
 }
@@ -136,18 +125,21 @@ fn number_tree(
 {
     let mut w: usize = 0;
     let mut s = Reading::new();
-    let mut i: usize = 0;
-    while i < tree.len() {
-        match s.entry(tree[i]) {
+    for (i, e) in tree.iter().enumerate() {
+        let step = match s.entry(*e) {
+            Ok(step) => step,
+            // not reached: no entry of a tree is refused
+            Err(r) => return Answer::Refused(r),
+        };
+        match step {
             Step::Opens(t) => {
-                open_node(opens, begins, t.depth - 1, tree[i], w);
+                open_node(opens, begins, t.depth - 1, *e, w);
                 s = t;
-                i += 1;
             }
             Step::Closes(t) => {
                 let d = t.depth;
-                let b = chains::wide(begins[d]);
-                match close(
+                let b = usize::from(begins[d]);
+                let Some((q, v)) = close(
                     pool,
                     words,
                     heads,
@@ -157,25 +149,16 @@ fn number_tree(
                     opens[d],
                     &waiting[b..w],
                     &values[b..w],
-                ) {
-                    Node::Reaches(q, v) => {
-                        store_closed(waiting, values, b, q, v);
-                        w = b + 1;
-                        s = t;
-                        i += 1;
-                    }
-                    Node::Stuck => {
-                        return refused_answer(Kind::NotAccepted, i as u64);
-                    }
-                }
-            }
-            // not reached: no entry of a tree is refused
-            Step::Refuses(r) => {
-                return Answer::Refused(r);
+                ) else {
+                    return refused_answer(Kind::NotAccepted, i as u64);
+                };
+                store_closed(waiting, values, b, q, v);
+                w = b + 1;
+                s = t;
             }
         }
     }
-    number_in(accepting, counts, waiting[0], values[0], i - 1)
+    number_in(accepting, counts, waiting[0], values[0], tree.len() - 1)
 }
 
 // The number of a tree of at most 4,096 entries: at most 2,048 nodes are open or waiting.
@@ -232,7 +215,7 @@ pub fn number_prepared(
         counts.now sums.now tree.now) }
 {
     match tree::check_tree(tree) {
-        Form::Refuses(r) => Answer::Refused(r),
-        Form::Tree => number_formed(pool, accepting, tree, words, heads, by, counts, sums),
+        Err(r) => Answer::Refused(r),
+        Ok(()) => number_formed(pool, accepting, tree, words, heads, by, counts, sums),
     }
 }

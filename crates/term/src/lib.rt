@@ -16,7 +16,7 @@ use chains::{Found, wide};
 use model::{Answer, Kind, refused_answer};
 use names::{NamesCheck, check_names, find_name, list_seed, name_at, stretch_at};
 use scan::scan_text;
-use tree::{Form, check_tree};
+use tree::check_tree;
 use words::{four_at, put_four, put_word, word_at};
 
 // What follows a name: another name is due at a place, with so many brackets open, after so many bars; the text ends, after so many bars; or it
@@ -466,8 +466,8 @@ fn write_named(names: &[u8], starts: &[u16; 256], n: usize, tree: &[u16], text: 
     ensures { WriteBy write_named names.now tree.now text.old text.new result }
 {
     match check_tree(tree) {
-        Form::Refuses(r) => Answer::Refused(r),
-        Form::Tree => write_formed(names, starts, n, tree, text),
+        Err(r) => Answer::Refused(r),
+        Ok(()) => write_formed(names, starts, n, tree, text),
     }
 }
 
