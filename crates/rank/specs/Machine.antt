@@ -5,8 +5,6 @@ use Rattle.model.specs.Answers.{Outcome, result, refused}
 use Rattle.model.specs.Reach.{entry_of}
 use Rattle.model.specs.Count.{sum}
 use Rattle.model.specs.Value.{horner}
-use Rattle.chains.specs.declared.Found.{Found}
-use Rattle.chains.specs.declared.Found.TheVariants.{At, Nothing}
 use Rattle.model.specs.Table.{Row}
 use Rattle.index.specs.Index.{row_found}
 use Rattle.counts.specs.Chain.{target}
@@ -22,9 +20,9 @@ abbrev pub Node : Type 0
 Node = Option (ℕ × ℕ)
 
 -- the state and the value by the row that was found
-abbrev pub node_by : Found → (rows : List Row) (cs sums xs vs : List ℕ) → Node
-node_by (At k) rows cs sums xs vs = Some (target rows k, formed cs sums xs vs k (target rows k))
-node_by Nothing rows cs sums xs vs = None
+abbrev pub node_by : Option ℕ → (rows : List Row) (cs sums xs vs : List ℕ) → Node
+node_by (Some k) rows cs sums xs vs = Some (target rows k, formed cs sums xs vs k (target rows k))
+node_by None rows cs sums xs vs = None
 
 -- the state and the value of a tree with symbol s, whose children have the states xs and the values vs
 unfoldable pub node_of : (rows : List Row) (cs sums : List ℕ) (s : ℕ) (xs vs : List ℕ) → Node

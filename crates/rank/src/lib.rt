@@ -12,8 +12,7 @@ ghost use Rattle.counts.specs.States.{held};
 ghost use Rattle.rank.specs.Machine.{formed, node_of, numbered, machine};
 ghost use Rattle.rank.specs.RankReady.{Foldable, Formable, Closable, Summable, RankReady, StackRoom};
 
-use chains::Found;
-use model::{Answer, Kind, refused_answer};
+use model::{Answer, Kind, refuse};
 use tree::{Reading, Step};
 
 // The children's values as one: for each child from the first, multiply by the count of its state and add its value.
@@ -57,13 +56,9 @@ fn close(
     ensures { result ≡ node_of (rows_in pool.now words.now) counts.now sums.now
         symbol states.now values.now }
 {
-    match index::find_row(pool, words, heads, by, symbol, states) {
-        Found::At(k) => {
-            let q = rows::target_in(words[k]);
-            Some((q, value_in(counts, sums, states, values, k, q)))
-        }
-        Found::Nothing => None,
-    }
+    let k = index::find_row(pool, words, heads, by, symbol, states)?;
+    let q = rows::target_in(words[k]);
+    Some((q, value_in(counts, sums, states, values, k, q)))
 }
 
 // The number of a tree with this state and value; 14 at the given place if the state is not listed. The value is added last, so that no sum
@@ -76,11 +71,11 @@ fn number_in(accepting: &[u16], counts: &[u64], q: u16, value: u64, place: usize
     for a in accepting {
         if *a == q {
             let number = value + earlier;
-            return Answer::Result(number);
+            return Ok(number);
         }
         earlier += counts[usize::from(*a)];
     }
-    refused_answer(Kind::NotAccepted, place as u64)
+    Err(refuse(Kind::NotAccepted, place as u64))
 }
 
 // Opens a node inside d open ones: stores its symbol, and how many states are waiting.
@@ -126,12 +121,8 @@ fn number_tree(
     let mut w: usize = 0;
     let mut s = Reading::new();
     for (i, e) in tree.iter().enumerate() {
-        let step = match s.entry(*e) {
-            Ok(step) => step,
-            // not reached: no entry of a tree is refused
-            Err(r) => return Answer::Refused(r),
-        };
-        match step {
+        // no entry of a tree is refused
+        match s.entry(*e)? {
             Step::Opens(t) => {
                 open_node(opens, begins, t.depth - 1, *e, w);
                 s = t;
@@ -150,7 +141,7 @@ fn number_tree(
                     &waiting[b..w],
                     &values[b..w],
                 ) else {
-                    return refused_answer(Kind::NotAccepted, i as u64);
+                    return Err(refuse(Kind::NotAccepted, i as u64));
                 };
                 store_closed(waiting, values, b, q, v);
                 w = b + 1;
@@ -214,8 +205,6 @@ pub fn number_prepared(
     ensures { outcome result ≡ tree_then tree.now (machine (rows_in pool.now words.now) accepting.now
         counts.now sums.now tree.now) }
 {
-    match tree::check_tree(tree) {
-        Err(r) => Answer::Refused(r),
-        Ok(()) => number_formed(pool, accepting, tree, words, heads, by, counts, sums),
-    }
+    tree::check_tree(tree)?;
+    number_formed(pool, accepting, tree, words, heads, by, counts, sums)
 }

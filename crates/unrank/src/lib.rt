@@ -7,7 +7,7 @@ ghost use Rattle.unrank.specs.UnrankReady.{ValueReady, WriteReady, NumberReady};
 ghost use Rattle.unrank.specs.Trees.{Opening, opened_at, Enters, Shared, child_of, value_entries, Wrote, ListReady, spot_of};
 ghost use Rattle.unrank.specs.Written.{WroteNumber, WroteBelow};
 
-use model::{Answer, Kind, refused_answer};
+use model::{Answer, Kind, refuse};
 
 // The row in which a value falls: its word, what it counts, and the value less what the state's earlier rows count.
 #[derive(Clone, Copy)]
@@ -185,10 +185,10 @@ fn write_number(
     let Spot { state, value } = find_state(accepting, counts, number);
     let needed = tree_length(pool, words, first, counts, sums, state, value);
     if tree.len() < needed {
-        return refused_answer(Kind::ShortTreeList, needed as u64);
+        return Err(refuse(Kind::ShortTreeList, needed as u64));
     }
     write_tree(pool, words, first, counts, sums, state, value, tree);
-    Answer::Result(needed as u64)
+    Ok(needed as u64)
 }
 
 // Writes the tree of a number of a table that passes, by what its check leaves.
@@ -208,7 +208,7 @@ pub fn write_prepared(
         tree.old tree.new result }
 {
     if total <= number {
-        return refused_answer(Kind::NumberNotBelowTotal, 0);
+        return Err(refuse(Kind::NumberNotBelowTotal, 0));
     }
     write_number(pool, accepting, words, first, counts, sums, number, tree)
 }

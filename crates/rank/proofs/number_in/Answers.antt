@@ -19,4 +19,4 @@ pub loop-a-preserved : goal.loop-a-preserved
 loop-a-preserved c = sum_goes c.loop-a.invariant c.loop-a-test.true _ c.from.ensures c.if-a-q.false
 
 pub returns : goal.returns
-returns c = c.refused_answer.ensures ∙ not_listed c.loop-a.invariant c.loop-a-test.false _ _
+returns c = c.refuse.ensures ∙ not_listed c.loop-a.invariant c.loop-a-test.false _ _
