@@ -87,7 +87,7 @@ fn same_name(a: &[u8], b: &[u8]) -> bool
     }
     let mut i: usize = 0;
     while 8 <= a.len() - i {
-        if !words_alike(word_at(a, i), word_at(b, i)) {
+        if !words_alike(word_at::<8>(a, i), word_at::<8>(b, i)) {
             return false;
         }
         i += 8;
@@ -143,7 +143,7 @@ fn only_list_bytes(names: &[u8]) -> bool
     let mut marks: u64 = 0;
     let mut i: usize = 0;
     while 8 <= names.len() - i {
-        marks = marks | foreign_bytes(word_at(names, i));
+        marks = marks | foreign_bytes(word_at::<8>(names, i));
         i += 8;
     }
     if marks != 0 {
@@ -177,8 +177,8 @@ pub fn list_seed(names: &[u8]) -> u64 {
             return seed;
         }
         seed = mix(
-            seed ^ mix(i as u64, word_at(names, i + 8)),
-            word_at(names, i),
+            seed ^ mix(i as u64, word_at::<8>(names, i + 8)),
+            word_at::<8>(names, i),
         );
         i += 16;
     }

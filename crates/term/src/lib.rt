@@ -17,7 +17,7 @@ use model::{Answer, Kind, refused_answer};
 use names::{NamesCheck, check_names, find_name, list_seed, name_at, stretch_at};
 use scan::scan_text;
 use tree::{Form, check_tree};
-use words::{four_at, put_four, put_word, word_at};
+use words::{put_word, word_at};
 
 // What follows a name: another name is due at a place, with so many brackets open, after so many bars; the text ends, after so many bars; or it
 // stops being a term at a place.
@@ -335,8 +335,8 @@ fn put_fours(text: &mut [u8], at: usize, bytes: &[u8])
     ensures { Copied (length bytes.now) text.old text.new at bytes.now }
 {
     let last = bytes.len() - 4;
-    put_four(&mut *text, at, four_at(bytes, 0));
-    put_four(text, at + last, four_at(bytes, last));
+    put_word::<4>(&mut *text, at, word_at::<4>(bytes, 0));
+    put_word::<4>(text, at + last, word_at::<4>(bytes, last));
 }
 
 // Puts eight bytes or more by words; the last eight may overlap the word before them.
@@ -347,10 +347,10 @@ fn put_long(text: &mut [u8], at: usize, bytes: &[u8])
     let last = bytes.len() - 8;
     let mut i: usize = 0;
     while i < last {
-        put_word(&mut *text, at + i, word_at(bytes, i));
+        put_word::<8>(&mut *text, at + i, word_at::<8>(bytes, i));
         i += 8;
     }
-    put_word(text, at + last, word_at(bytes, last));
+    put_word::<8>(text, at + last, word_at::<8>(bytes, last));
 }
 
 // Puts the bytes at a place; gives the place after them.
