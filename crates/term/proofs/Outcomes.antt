@@ -14,6 +14,7 @@ use Rattle.model.specs.Names.{how_many_names, names_then}
 use Rattle.model.specs.Term.{Scan, passes, breaks_at}
 use Rattle.model.specs.Tree.{WellFormed}
 use Rattle.model.specs.TermOperations.{entries_of, bytes_of, fits_in, read_fits, read_named, symbol_ground, write_fits, write_formed, write_named, read_term_outcome, write_term_outcome, read_term_list, write_term_list}
+use Rattle.std.specs.Prelude.{Result, Ok, Err}
 use Rattle.model.specs.declared.Refusal.{Refusal}
 use Rattle.model.proofs.Choice.{no_fault, fault_refused, is_false}
 use Rattle.tree.specs.Reading.{Decides}
@@ -25,8 +26,6 @@ use Rattle.term.specs.Emit.{entries_text}
 use Rattle.term.specs.Pass.{unlisted_at, Cleared, pass_then, Passed}
 use Rattle.term.specs.Written.{Front, EntriesNamed, Gave, ReadTerm, WriteTerm}
 use Rattle.names.specs.NamesIndex.{NamesAnswer}
-use Rattle.names.specs.declared.NamesCheck.{NamesCheck}
-use Rattle.names.specs.declared.NamesCheck.TheVariants.{Sound, Faulty}
 use Rattle.term.specs.declared.Pass.{Pass}
 use Rattle.term.specs.declared.Pass.TheVariants.{Breaks, Unlisted, Taken}
 use Rattle.term.proofs.EntriesText.{entries_text_lem}
@@ -101,11 +100,11 @@ pub text_too_long : (names text : List ℕ) (room : ℕ) → 65536 < length text
 text_too_long names text room l = rw (lt-ltb 65536 (length text) l)
 
 -- 17
-module _ {seed : ℕ} {names starts heads next : List ℕ} {r : NamesCheck} (x : NamesAnswer seed names starts heads next r) where
-  pub faulty_names : (k : ℕ) (o : Outcome) → r ≡ Faulty k → refused 17 k ≡ names_then names o
+module _ {seed : ℕ} {names starts heads next : List ℕ} {r : Result ℕ Refusal} (x : NamesAnswer seed names starts heads next r) where
+  pub faulty_names : (k : Refusal) (o : Outcome) → r ≡ Err k → refused_by k ≡ names_then names o
   faulty_names k o e = rw e at (x.decided o)
 
-  pub sound_names : (n : ℕ) (o : Outcome) → r ≡ Sound n → o ≡ names_then names o
+  pub sound_names : (n : ℕ) (o : Outcome) → r ≡ Ok n → o ≡ names_then names o
   sound_names n o e = rw e at (x.decided o)
 
 -- the whole
