@@ -151,7 +151,7 @@ fn print_entry<W: Write>(out: &mut W, entry: u64) -> io::Result<()> {
 // An answer of the operation.
 fn say<W: Write>(out: &mut W, operation: u64, answer: Answer) -> io::Result<()> {
     match answer {
-        Answer::Result(n) => {
+        Ok(n) => {
             if operation == 1 {
                 out.write_all(b"total")?;
             } else {
@@ -159,7 +159,7 @@ fn say<W: Write>(out: &mut W, operation: u64, answer: Answer) -> io::Result<()> 
             }
             print_entry(out, n)
         }
-        Answer::Refused(r) => {
+        Err(r) => {
             let kind = r.kind;
             out.write_all(b"refused")?;
             print_entry(out, model::kind_number(kind) as u64)?;

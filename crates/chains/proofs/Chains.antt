@@ -8,7 +8,7 @@ use lib.ListN.{length, get_or, set, length-set}
 use lib.Seq.{get_or-set_same, get_or-set_other}
 use lib.Dec.{ltb, eqb}
 use borrow.Author.Tests.{ltb-true, ltb-false, eqb-true, eqb-false}
-use Rattle.chains.specs.declared.Found.TheVariants.{At, Nothing}
+use Rattle.std.specs.Prelude.{Some, None}
 use Rattle.chains.specs.First.{first_with}
 use Rattle.chains.specs.Chains.{Link, Chains, Clear}
 use Rattle.chains.proofs.First.{none_first, first_at}
@@ -23,11 +23,11 @@ module _ (bucket : ℕ → ℕ) (sought : ℕ → Bool) (b : ℕ) where
 
   module _ {n : ℕ} (p : ℕ) (w : Walk n p) where
     -- a number for which `sought` holds is the first, where it holds for no earlier one
-    pub walk_finds : 0 < p → sought (p - 1) ≡ true → ((k : ℕ) → k < p - 1 → sought k ≡ true → ⊥) → At (p - 1) ≡ first_with sought n
+    pub walk_finds : 0 < p → sought (p - 1) ≡ true → ((k : ℕ) → k < p - 1 → sought k ≡ true → ⊥) → Some (p - 1) ≡ first_with sought n
     walk_finds pos t earlier = sym (first_at sought n (p - 1) (omega (arith, w.within)) t earlier)
 
     -- at its end there is none
-    pub walk_ends : p ≤ 0 → Nothing ≡ first_with sought n
+    pub walk_ends : p ≤ 0 → None ≡ first_with sought n
     walk_ends le = sym (none_first sought n (λ k lt t. w.past k (omega arith) lt t))
 
   module _ (in_bucket : (k : ℕ) → sought k ≡ true → bucket k ≡ b) {size room n : ℕ} {heads next : List ℕ} (x : Chains bucket size room n heads next) where

@@ -7,52 +7,52 @@ use native.Mathlib.Numerals.{add-one}
 use lib.Dec.{ltb}
 use borrow.Author.Tests.{ltb-true, ltb-false}
 use Rattle.model.specs.Choice.{any_below}
-use Rattle.chains.specs.declared.Found.{Found}
-use Rattle.chains.specs.declared.Found.TheVariants.{At, Nothing}
+use Rattle.std.specs.Prelude.{Option}
+use Rattle.std.specs.Prelude.{Some, None}
 use Rattle.chains.specs.First.{or_else, first_with}
 
 -- something was found
-abbrev pub is_at : Found → Bool
-is_at (At r) = true
-is_at Nothing = false
+abbrev pub is_at : Option ℕ → Bool
+is_at (Some r) = true
+is_at None = false
 
 -- a number is not nothing
-pub apart : {A : Type 0} (r : ℕ) → At r ≡ Nothing → A
+pub apart : {A : Type 0} (r : ℕ) → Some r ≡ None → A
 apart r h = let z : ◌≡◌ {A = ℕ} 0 1 = cc in absurd (omega arith)
 
 module _ (p : ℕ → Bool) where
   -- where no number below n has the property, nothing is found
-  pub none_first : (n : ℕ) → ((k : ℕ) → k < n → p k ≡ true → ⊥) → first_with p n ≡ Nothing
+  pub none_first : (n : ℕ) → ((k : ℕ) → k < n → p k ≡ true → ⊥) → first_with p n ≡ None
   unfolding first_with or_else
   none_first zero f = refl
   none_first (suc n) f = rw (none_first n (λ k lt. f k (omega arith))) (go (p n) (f n (omega arith)))
     where
-      go : (t : Bool) → (t ≡ true → ⊥) → or_else Nothing t n ≡ Nothing
+      go : (t : Bool) → (t ≡ true → ⊥) → or_else None t n ≡ None
       go true ne = absurd (ne refl)
       go false ne = refl
 
   -- a number with the property, before which none has it, is the one found
-  pub first_at : (n r : ℕ) → r < n → p r ≡ true → ((k : ℕ) → k < r → p k ≡ true → ⊥) → first_with p n ≡ At r
+  pub first_at : (n r : ℕ) → r < n → p r ≡ true → ((k : ℕ) → k < r → p k ≡ true → ⊥) → first_with p n ≡ Some r
   unfolding first_with or_else
   first_at zero r lt e f = absurd (omega arith)
   first_at (suc n) r lt e f = go (ltb r n) refl (λ h. first_at n r h e f)
     where
-      go : (t : Bool) → ltb r n ≡ t → (r < n → first_with p n ≡ At r) → or_else (first_with p n) (p n) n ≡ At r
+      go : (t : Bool) → ltb r n ≡ t → (r < n → first_with p n ≡ Some r) → or_else (first_with p n) (p n) n ≡ Some r
       go true q ih = rw (ih (ltb-true r n q))
       go false q ih =
           let same : n ≡ r = omega (arith, ltb-false r n q) in
           rw (same, none_first r f, e)
 
   -- where nothing is found, no number below n has the property
-  pub first_none : (n : ℕ) → first_with p n ≡ Nothing → (k : ℕ) → k < n → p k ≡ true → ⊥
+  pub first_none : (n : ℕ) → first_with p n ≡ None → (k : ℕ) → k < n → p k ≡ true → ⊥
   unfolding first_with or_else
   first_none zero e k lt t = absurd (omega arith)
   first_none (suc n) e k lt t = go (first_with p n) (p n) refl refl e (λ h. first_none n h k)
     where
-      go : (o : Found) (s : Bool) → first_with p n ≡ o → p n ≡ s → or_else o s n ≡ Nothing → (first_with p n ≡ Nothing → k < n → p k ≡ true → ⊥) → ⊥
-      go (At r) s u v h ih = apart r h
-      go Nothing true u v h ih = apart n h
-      go Nothing false u v h ih = last (ltb k n) refl
+      go : (o : Option ℕ) (s : Bool) → first_with p n ≡ o → p n ≡ s → or_else o s n ≡ None → (first_with p n ≡ None → k < n → p k ≡ true → ⊥) → ⊥
+      go (Some r) s u v h ih = apart r h
+      go None true u v h ih = apart n h
+      go None false u v h ih = last (ltb k n) refl
         where
           last : (b : Bool) → ltb k n ≡ b → ⊥
           last true q = ih u (ltb-true k n q) t
@@ -63,22 +63,22 @@ module _ (p : ℕ → Bool) where
               omega arith
 
   -- the number found is below n, has the property, and none before it has
-  pub first_is : (n r : ℕ) → first_with p n ≡ At r → (r < n) × (p r ≡ true) × ((k : ℕ) → k < r → p k ≡ true → ⊥)
+  pub first_is : (n r : ℕ) → first_with p n ≡ Some r → (r < n) × (p r ≡ true) × ((k : ℕ) → k < r → p k ≡ true → ⊥)
   unfolding first_with or_else
   first_is zero r e = apart r (sym e)
   first_is (suc n) r e = go (first_with p n) (p n) refl refl e (first_is n r)
     where
-      go : (o : Found) (s : Bool) → first_with p n ≡ o → p n ≡ s → or_else o s n ≡ At r
-          → (first_with p n ≡ At r → (r < n) × (p r ≡ true) × ((k : ℕ) → k < r → p k ≡ true → ⊥))
+      go : (o : Option ℕ) (s : Bool) → first_with p n ≡ o → p n ≡ s → or_else o s n ≡ Some r
+          → (first_with p n ≡ Some r → (r < n) × (p r ≡ true) × ((k : ℕ) → k < r → p k ≡ true → ⊥))
           → (r < suc n) × (p r ≡ true) × ((k : ℕ) → k < r → p k ≡ true → ⊥)
-      go (At j) s u v h ih = let x = ih (u ∙ h) in (omega (arith, x.0), x.1, x.2)
-      go Nothing true u v h ih =
+      go (Some j) s u v h ih = let x = ih (u ∙ h) in (omega (arith, x.0), x.1, x.2)
+      go None true u v h ih =
           let same : n ≡ r = cc in
           (omega arith, (rw same at v), rw same at (first_none n u))
-      go Nothing false u v h ih = apart r (sym h)
+      go None false u v h ih = apart r (sym h)
 
   -- nothing below n and not n: nothing below n + 1
-  pub first_more : (n : ℕ) → first_with p n ≡ Nothing → p n ≡ false → first_with p (n + 1) ≡ Nothing
+  pub first_more : (n : ℕ) → first_with p n ≡ None → p n ≡ false → first_with p (n + 1) ≡ None
   unfolding first_with or_else
   first_more n e f = rw (add-one n, e, f)
 
@@ -88,7 +88,7 @@ module _ (p : ℕ → Bool) where
   any_first zero = refl
   any_first (suc n) = rw (any_first n) (go (first_with p n) (p n))
     where
-      go : (o : Found) (t : Bool) → is_at o || t ≡ is_at (or_else o t n)
-      go (At r) t = refl
-      go Nothing true = refl
-      go Nothing false = refl
+      go : (o : Option ℕ) (t : Bool) → is_at o || t ≡ is_at (or_else o t n)
+      go (Some r) t = refl
+      go None true = refl
+      go None false = refl

@@ -1,17 +1,17 @@
 -- The first number with a property, and the first with a ground for a refusal. Assumes nothing: these are definitions.
 use Rattle.std.specs.Prelude.{ℕ, zero, suc, ◌<◌, ◌≡◌, Bool, true, false}
-use Rattle.chains.specs.declared.Found.{Found}
-use Rattle.chains.specs.declared.Found.TheVariants.{At, Nothing}
+use Rattle.std.specs.Prelude.{Option}
+use Rattle.std.specs.Prelude.{Some, None}
 
 -- what was found before, or else k where the test holds
-unfoldable pub or_else : Found → Bool → ℕ → Found
-or_else (At r) t k = At r
-or_else Nothing true k = At k
-or_else Nothing false k = Nothing
+unfoldable pub or_else : Option ℕ → Bool → ℕ → Option ℕ
+or_else (Some r) t k = Some r
+or_else None true k = Some k
+or_else None false k = None
 
 -- the first number below n with the property
-unfoldable pub first_with : (ℕ → Bool) → ℕ → Found
-first_with p zero = Nothing
+unfoldable pub first_with : (ℕ → Bool) → ℕ → Option ℕ
+first_with p zero = None
 first_with p (suc n) = or_else (first_with p n) (p n) n
 
 -- all of n things are without a ground

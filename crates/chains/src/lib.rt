@@ -3,13 +3,6 @@
 
 ghost use Rattle.std.specs.Prelude.{◌≡◌};
 
-// The first number with a property, or nothing.
-#[derive(Clone, Copy)]
-pub enum Found {
-    At(usize),
-    Nothing,
-}
-
 pub fn wide(x: u16) -> usize
     ensures { result ≡ x }
 {

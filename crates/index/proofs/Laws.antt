@@ -12,8 +12,8 @@ use Rattle.model.specs.Table.{Row, row_is, same_list}
 use Rattle.model.proofs.Choice.{any_true}
 use Rattle.model.proofs.Rows.{row_is_true}
 use Rattle.model.proofs.Lists.{same_length}
-use Rattle.chains.specs.declared.Found.{Found}
-use Rattle.chains.specs.declared.Found.TheVariants.{At, Nothing}
+use Rattle.std.specs.Prelude.{Option}
+use Rattle.std.specs.Prelude.{Some, None}
 use Rattle.chains.specs.First.{first_with}
 use Rattle.chains.specs.Chains.{Link, Chains, Clear}
 use Rattle.chains.proofs.First.{is_at, none_first, first_none, first_more, any_first}
@@ -125,7 +125,7 @@ module _ (row : ℕ → Row) (by size key : ℕ) (xs : List ℕ) where
       rw (y.0, y.1, g) (sym e)
 
   -- among rows of which none repeats another no earlier row is sought too
-  pub no_earlier : (n : ℕ) → first_with (repeated_by row) n ≡ Nothing → (r : ℕ) → r < n → sought r ≡ true → (k : ℕ) → k < r → sought k ≡ true → ⊥
+  pub no_earlier : (n : ℕ) → first_with (repeated_by row) n ≡ None → (r : ℕ) → r < n → sought r ≡ true → (k : ℕ) → k < r → sought k ≡ true → ⊥
   unfolding repeated_by
   no_earlier n none r rn t k lt y =
       let a = row_is_true (row r) (key % 256) xs t in
@@ -133,8 +133,8 @@ module _ (row : ℕ → Row) (by size key : ℕ) (xs : List ℕ) where
       (any_true r k (λ j. row_is (row j) (row r).symbol (row r).args) lt (rw (a.0, a.1) y))
 
 -- what is found says whether an earlier row has the symbol and the arguments
-pub earlier_by : (row : ℕ → Row) (n s : ℕ) (xs : List ℕ) (o : Found) → o ≡ found_by row n s xs → any_below n (λ j. row_is (row j) s xs) ≡ is_at o
-earlier_by row n s xs o h = any_first (λ j. row_is (row j) s xs) n ∙ ap (λ (y : Found). is_at y) (sym h)
+pub earlier_by : (row : ℕ → Row) (n s : ℕ) (xs : List ℕ) (o : Option ℕ) → o ≡ found_by row n s xs → any_below n (λ j. row_is (row j) s xs) ≡ is_at o
+earlier_by row n s xs o h = any_first (λ j. row_is (row j) s xs) n ∙ ap (λ (y : Option ℕ). is_at y) (sym h)
 
 -- before the first row
 pub index_begins : (by size room : ℕ) (row : ℕ → Row) {heads next : List ℕ} → Clear size room heads next → IndexBy by size room row 0 heads next
@@ -147,12 +147,12 @@ pub indexed : {by size room : ℕ} {row : ℕ → Row} {n : ℕ} {heads next : L
 indexed {by} {size} {room} {row} {n} x b e lt fits f = record { chains = chained x.chains b e lt fits; distinct = first_more (repeated_by row) n x.distinct f }
 
 -- a symbol or an argument count that no row has
-none_found : (rows : List Row) (s : ℕ) (xs : List ℕ) → ((k : ℕ) → k < length rows → (row_no rows k).symbol ≡ s → (row_no rows k).args ≡ xs → ⊥) → Nothing ≡ row_found rows s xs
+none_found : (rows : List Row) (s : ℕ) (xs : List ℕ) → ((k : ℕ) → k < length rows → (row_no rows k).symbol ≡ s → (row_no rows k).args ≡ xs → ⊥) → None ≡ row_found rows s xs
 none_found rows s xs h = sym (none_first _ (length rows) (λ k l t. let y = row_is_true (row_no rows k) s xs t in h k l y.0 y.1))
 
 -- the rows that words hold have symbols below 256 and at most 16 arguments
 module _ (pool words : List ℕ) (h : Held pool words (length words)) (s : ℕ) (xs : List ℕ) where
-  pub too_long : 16 < length xs → Nothing ≡ row_found (rows_in pool words) s xs
+  pub too_long : 16 < length xs → None ≡ row_found (rows_in pool words) s xs
   too_long many = none_found (rows_in pool words) s xs other
     where
       other : (k : ℕ) → k < length (rows_in pool words) → (row_no (rows_in pool words) k).symbol ≡ s → (row_no (rows_in pool words) k).args ≡ xs → ⊥
@@ -161,7 +161,7 @@ module _ (pool words : List ℕ) (h : Held pool words (length words)) (s : ℕ) 
           let g : args_in pool (get_or words k 0) ≡ xs = ap (λ (r : Row). r.args) (sym (row_held_lem pool words k m)) ∙ f in
           omega (arith, (h.inside k m).few, args_long pool (get_or words k 0) (h.inside k m), ap length g)
 
-  pub too_high : 255 < s → Nothing ≡ row_found (rows_in pool words) s xs
+  pub too_high : 255 < s → None ≡ row_found (rows_in pool words) s xs
   too_high many = none_found (rows_in pool words) s xs other
     where
       other : (k : ℕ) → k < length (rows_in pool words) → (row_no (rows_in pool words) k).symbol ≡ s → (row_no (rows_in pool words) k).args ≡ xs → ⊥
@@ -172,15 +172,15 @@ module _ (pool words : List ℕ) (h : Held pool words (length words)) (s : ℕ) 
 
 -- ---- what seeking says
 
-module _ (found : Found) (most n : ℕ) where
-  pub sought_there : (k : ℕ) → At k ≡ found → SoughtRow found most n (SoughtAt k)
+module _ (found : Option ℕ) (most n : ℕ) where
+  pub sought_there : (k : ℕ) → Some k ≡ found → SoughtRow found most n (SoughtAt k)
   sought_there k e = record {
     at = λ m h. let z : k ≡ m = cc in rw (← z) e;
     nothing = λ h. let z : ◌≡◌ {A = ℕ} 0 1 = cc in absurd (omega arith);
     crowded = λ h. let z : ◌≡◌ {A = ℕ} 0 1 = cc in absurd (omega arith);
   }
 
-  pub sought_nowhere : Nothing ≡ found → SoughtRow found most n SoughtNothing
+  pub sought_nowhere : None ≡ found → SoughtRow found most n SoughtNothing
   sought_nowhere e = record {
     at = λ m h. let z : ◌≡◌ {A = ℕ} 0 1 = cc in absurd (omega arith);
     nothing = λ h. e;

@@ -8,8 +8,8 @@ use lib.ListN.{length, get_or, set}
 use lib.Seq.{get_or-set_same, get_or-set_other}
 use Rattle.model.specs.Choice.{any_below}
 use Rattle.model.specs.Table.{Row, row_is}
-use Rattle.chains.specs.declared.Found.{Found}
-use Rattle.chains.specs.declared.Found.TheVariants.{At, Nothing}
+use Rattle.std.specs.Prelude.{Option}
+use Rattle.std.specs.Prelude.{Some, None}
 use Rattle.chains.proofs.First.{is_at}
 use Rattle.rows.specs.Words.{a_row, word_of, next_in, nexts, row_in, row_held, Apart}
 use Rattle.rows.proofs.Words.{apart, row_of_lem, map_set}
@@ -38,13 +38,13 @@ module _ {by most : ℕ} {pool words heads : List ℕ} {n symbol target from : �
   its_symbol = omega (arith, x.symbol_low)
 
   -- what is found says whether an earlier row has the symbol and the arguments
-  earlier : (f : Found) → f ≡ found_by (row_held pool words) n (key % 256) args → any_below n (λ j. row_is (row_held pool words j) symbol args) ≡ is_at f
+  earlier : (f : Option ℕ) → f ≡ found_by (row_held pool words) n (key % 256) args → any_below n (λ j. row_is (row_held pool words j) symbol args) ≡ is_at f
   earlier f e = earlier_by (row_held pool words) n symbol args f (rw its_symbol at e)
 
   pub enter_repeats : (k : ℕ) → o ≡ SoughtAt k → EnteredRow by most pool words heads words heads n symbol target from args Repeats
   enter_repeats k e = record {
     enters = λ h. let z : ◌≡◌ {A = ℕ} 0 1 = cc in absurd (omega arith);
-    repeats = λ h. earlier (At k) (s.at k e);
+    repeats = λ h. earlier (Some k) (s.at k e);
     crowds = λ h. let z : ◌≡◌ {A = ℕ} 0 1 = cc in absurd (omega arith);
   }
 
@@ -69,7 +69,7 @@ module _ {by most : ℕ} {pool words heads : List ℕ} {n symbol target from : �
     its_bucket = bucket ∙ ap (λ (k : ℕ). hash_of by (length heads) k args) is ∙ ap (row_bucket by (length heads)) (sym here)
 
     new : repeated_by row n ≡ false
-    new = repeated_is row n here ∙ (sym (earlier_same (row_held pool words) row n (put_other pool words n w) symbol args) ∙ earlier Nothing (s.nothing e))
+    new = repeated_is row n here ∙ (sym (earlier_same (row_held pool words) row n (put_other pool words n w) symbol args) ∙ earlier None (s.nothing e))
 
     entered : IndexBy by (length heads) (length words) row (n + 1) (set heads b (n + 1)) (nexts (set words n w))
     entered =

@@ -2,8 +2,8 @@
 use Rattle.std.specs.Prelude.{ℕ, ◌+◌, ◌*◌, ◌/◌, ◌≤◌, ◌<◌, ◌≡◌, Bool, true, List, length, set, take, drop}
 use Rattle.model.specs.Choice.{any_below}
 use Rattle.model.specs.Table.{Row, row_is}
-use Rattle.chains.specs.declared.Found.{Found}
-use Rattle.chains.specs.declared.Found.TheVariants.{At, Nothing}
+use Rattle.std.specs.Prelude.{Option}
+use Rattle.std.specs.Prelude.{Some, None}
 use Rattle.chains.specs.First.{first_with}
 use Rattle.chains.specs.Chains.{Chains}
 use Rattle.rows.specs.Words.{row_no, nexts, row_held, Held, Apart}
@@ -14,7 +14,7 @@ use Rattle.index.specs.declared.Entering.TheVariants.{Entered, Repeats, Crowded}
 use Rattle.index.specs.Hash.{hash_of, Multiplier, Sized}
 
 -- rows given by number: the first of the first n with symbol s and arguments xs
-abbrev pub found_by : (ℕ → Row) → ℕ → ℕ → List ℕ → Found
+abbrev pub found_by : (ℕ → Row) → ℕ → ℕ → List ℕ → Option ℕ
 found_by row n s xs = first_with (λ k. row_is (row k) s xs) n
 
 -- "the symbol and arguments of an earlier row"
@@ -28,10 +28,10 @@ row_bucket by size r = hash_of by size (r.symbol + length r.args * 256) r.args
 -- the first n rows are chained by bucket, and none of them repeats another
 pub record IndexBy (by size room : ℕ) (row : ℕ → Row) (n : ℕ) (heads next : List ℕ) : Type 0 where
   pub chains : Chains (λ r. row_bucket by size (row r)) size room n heads next
-  pub distinct : first_with (repeated_by row) n ≡ Nothing
+  pub distinct : first_with (repeated_by row) n ≡ None
 
 -- the same of a list of rows, all of them
-abbrev pub row_found : List Row → ℕ → List ℕ → Found
+abbrev pub row_found : List Row → ℕ → List ℕ → Option ℕ
 row_found rows s xs = found_by (row_no rows) (length rows) s xs
 
 pub record Index (by : ℕ) (rows : List Row) (heads next : List ℕ) : Type 0 where
@@ -41,9 +41,9 @@ pub record Index (by : ℕ) (rows : List Row) (heads next : List ℕ) : Type 0 w
 
 -- the row with a symbol and arguments, if its chain is walked at most so many steps. Crowded is said only where there are at least so many rows;
 -- of when, nothing is promised: it costs time and no answer
-pub record SoughtRow (found : Found) (most n : ℕ) (r : Sought) : Type 0 where
-  pub at : (k : ℕ) → r ≡ SoughtAt k → At k ≡ found
-  pub nothing : r ≡ SoughtNothing → Nothing ≡ found
+pub record SoughtRow (found : Option ℕ) (most n : ℕ) (r : Sought) : Type 0 where
+  pub at : (k : ℕ) → r ≡ SoughtAt k → Some k ≡ found
+  pub nothing : r ≡ SoughtNothing → None ≡ found
   pub crowded : r ≡ SoughtCrowded → most ≤ n
 
 -- what a chain is walked from: the first n words hold rows, which are chained, and b is the bucket of the key and the arguments

@@ -8,7 +8,7 @@ ghost use Rattle.index.specs.Hash.{two, fours, mix, mix_all, hash_of, Multiplier
 ghost use Rattle.index.specs.Index.{found_by, row_found, Index, SoughtRow, Seeking, Enterable, EnteredRow};
 ghost use Rattle.index.specs.Taken.{Takeable, Taken};
 
-use chains::{Found, wide, wider};
+use chains::{wide, wider};
 use model::Kind;
 use rows::RowStep;
 
@@ -154,24 +154,24 @@ pub fn find_row(
     by: u64,
     symbol: u16,
     args: &[u16],
-) -> Found
+) -> Option<usize>
     requires held { Held pool.now words.now (length words.now) }
     requires index { Index by (rows_in pool.now words.now) heads.now (nexts words.now) }
     ensures { result ≡ row_found (rows_in pool.now words.now) symbol args.now }
 {
     if 16 < args.len() {
-        return Found::Nothing;
+        return None;
     }
     if 255 < symbol {
-        return Found::Nothing;
+        return None;
     }
     let key = wider(symbol) + args.len() as u64 * 256;
     let b = hash(by, heads.len(), key, args);
     match seek(pool, words, heads, words.len(), b, 2048, key, args) {
-        Sought::At(k) => Found::At(k),
-        Sought::Nothing => Found::Nothing,
+        Sought::At(k) => Some(k),
+        Sought::Nothing => None,
         // not reached: no chain has more than 1,024 rows
-        Sought::Crowded => Found::Nothing,
+        Sought::Crowded => None,
     }
 }
 

@@ -142,12 +142,12 @@ fn put_term(names: &[u8], tree: &[u16], out: &mut [u8]) -> usize
         (λ count. bytes_of names.now tree.now)) result }
 {
     match term::write_term(names, tree, &mut *out) {
-        Answer::Result(count) => {
+        Ok(count) => {
             let n = count as usize;
             out[n] = b'\n';
             n + 1
         }
-        Answer::Refused(r) => put_refusal(r, out),
+        Err(r) => put_refusal(r, out),
     }
 }
 
@@ -166,11 +166,11 @@ fn answer_number(
     ensures { Begins out.new (answer_number states rows.now accepting.now names.now number) result }
 {
     match operations::write(states, rows, accepting, number, &mut *tree) {
-        Answer::Result(count) => {
+        Ok(count) => {
             let n = count as usize;
             put_term(names, &tree[..n], out)
         }
-        Answer::Refused(r) => put_refusal(r, out),
+        Err(r) => put_refusal(r, out),
     }
 }
 
@@ -180,8 +180,8 @@ fn answer_tree(states: u64, rows: &[u16], accepting: &[u16], tree: &[u16], out: 
     ensures { Begins out.new (printed (number_outcome states rows.now accepting.now tree.now) decimal) result }
 {
     match operations::number(states, rows, accepting, tree) {
-        Answer::Result(number) => put_number(number, out),
-        Answer::Refused(r) => put_refusal(r, out),
+        Ok(number) => put_number(number, out),
+        Err(r) => put_refusal(r, out),
     }
 }
 
@@ -200,11 +200,11 @@ fn answer_term(
     ensures { Begins out.new (answer_term states rows.now accepting.now names.now text.now) result }
 {
     match term::read_term(names, text, &mut *tree) {
-        Answer::Result(count) => {
+        Ok(count) => {
             let n = count as usize;
             answer_tree(states, rows, accepting, &tree[..n], out)
         }
-        Answer::Refused(r) => put_refusal(r, out),
+        Err(r) => put_refusal(r, out),
     }
 }
 

@@ -3,8 +3,8 @@ use Rattle.std.specs.Prelude.{ℕ, ◌≡◌, List, ◌++◌, length, take, drop
 use Rattle.model.specs.declared.Kind.{Kind}
 use Rattle.model.specs.declared.Kind.TheVariants.{TooManyStates, CutRow, TooManyRowsOrArguments, NotInRange, ArgumentNotBelowTarget, RepeatedRow, AcceptingEntry, CountAboveLimit, LongestTreeAboveLimit, TotalAboveLimit, TreeTooLong, NotATree, NotAccepted, NumberNotBelowTotal, ShortTreeList, FaultyNames, TextTooLong, NotATerm, UnlistedName, TermTreeTooLong, ShortTermTree, UnnamedSymbol, ShortTextList}
 use Rattle.model.specs.declared.Refusal.{Refusal}
-use Rattle.model.specs.declared.Answer.{Answer}
-use Rattle.model.specs.declared.Answer.TheVariants.{Result, Refused}
+use Rattle.std.specs.Prelude.{Result}
+use Rattle.std.specs.Prelude.{Ok, Err}
 
 -- "An answer is a result or a refusal with its number and place."
 pub data Outcome : Type 0 where
@@ -65,9 +65,9 @@ kind_number ShortTextList = 24
 abbrev pub refused_by : Refusal → Outcome
 refused_by r = refused (kind_number r.kind) r.place
 
-abbrev pub outcome : Answer → Outcome
-outcome (Result n) = result n
-outcome (Refused r) = refused_by r
+abbrev pub outcome : Result ℕ Refusal → Outcome
+outcome (Ok n) = result n
+outcome (Err r) = refused_by r
 
 -- "written at the front; later entries stay"; "written at the front; later bytes stay"; "A refusal writes to no lent list." A result n is
 -- the length of what is written (for terms the laws `read_exactly` and `write_exactly`, for trees `write_tree_back`)

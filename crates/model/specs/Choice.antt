@@ -1,5 +1,5 @@
 -- Choosing by tests, and by the first of several things that is faulty. Assumes nothing: these are definitions.
-use Rattle.std.specs.Prelude.{ℕ, zero, suc, Bool, true, false, ◌||◌}
+use Rattle.std.specs.Prelude.{ℕ, zero, suc, Bool, false, ◌||◌}
 use Rattle.model.specs.Answers.{Outcome, refused}
 
 -- a ground is given by its refusal's number; 0 says that none holds

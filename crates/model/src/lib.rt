@@ -2,98 +2,61 @@
 #![tactic(auto)]
 
 ghost use Rattle.std.specs.Prelude.{◌≡◌};
-ghost use Rattle.model.specs.Answers.{refused, kind_number, refused_by, outcome};
+ghost use Rattle.model.specs.Answers.{refused, kind_number, refused_by};
 
 // The refusals of document 01, in the order of their numbers.
-#[derive(Clone, Copy)]
+#[derive(Clone, Copy, PartialEq, Eq, Debug)]
 pub enum Kind {
     // 1 to 7 and 9 to 11: checking a table
-    TooManyStates,
-    CutRow,
-    TooManyRowsOrArguments,
-    NotInRange,
-    ArgumentNotBelowTarget,
-    RepeatedRow,
-    AcceptingEntry,
+    TooManyStates = 1,
+    CutRow = 2,
+    TooManyRowsOrArguments = 3,
+    NotInRange = 4,
+    ArgumentNotBelowTarget = 5,
+    RepeatedRow = 6,
+    AcceptingEntry = 7,
     // 8 is withdrawn, and its number is not used again
-    CountAboveLimit,
-    LongestTreeAboveLimit,
-    TotalAboveLimit,
+    CountAboveLimit = 9,
+    LongestTreeAboveLimit = 10,
+    TotalAboveLimit = 11,
     // 12 to 14: numbering a tree
-    TreeTooLong,
-    NotATree,
-    NotAccepted,
+    TreeTooLong = 12,
+    NotATree = 13,
+    NotAccepted = 14,
     // 15 and 16: writing the tree of a number
-    NumberNotBelowTotal,
-    ShortTreeList,
+    NumberNotBelowTotal = 15,
+    ShortTreeList = 16,
     // 17 to 22: reading a term
-    FaultyNames,
-    TextTooLong,
-    NotATerm,
-    UnlistedName,
-    TermTreeTooLong,
-    ShortTermTree,
+    FaultyNames = 17,
+    TextTooLong = 18,
+    NotATerm = 19,
+    UnlistedName = 20,
+    TermTreeTooLong = 21,
+    ShortTermTree = 22,
     // 23 and 24: writing a term
-    UnnamedSymbol,
-    ShortTextList,
+    UnnamedSymbol = 23,
+    ShortTextList = 24,
 }
 
-#[derive(Clone, Copy)]
+#[derive(Clone, Copy, PartialEq, Eq, Debug)]
 pub struct Refusal {
     pub place: u64,
     pub kind: Kind,
 }
 
-#[derive(Clone, Copy)]
-pub enum Answer {
-    Result(u64),
-    Refused(Refusal),
-}
+// A result, or the refusal.
+pub type Answer = Result<u64, Refusal>;
 
 // A refusal: of which kind, and where.
 pub fn refuse(kind: Kind, place: u64) -> Refusal
     ensures { refused_by result ≡ refused (kind_number kind) place }
 {
-    Refusal {
-        place: place,
-        kind: kind,
-    }
-}
-
-// The answer that is such a refusal.
-pub fn refused_answer(kind: Kind, place: u64) -> Answer
-    ensures { outcome result ≡ refused (kind_number kind) place }
-{
-    Answer::Refused(refuse(kind, place))
+    Refusal { place, kind }
 }
 
 // Document 01's number of a kind of refusal.
 pub fn kind_number(k: Kind) -> u32
     ensures { result ≡ kind_number k }
 {
-    match k {
-        Kind::TooManyStates => 1,
-        Kind::CutRow => 2,
-        Kind::TooManyRowsOrArguments => 3,
-        Kind::NotInRange => 4,
-        Kind::ArgumentNotBelowTarget => 5,
-        Kind::RepeatedRow => 6,
-        Kind::AcceptingEntry => 7,
-        Kind::CountAboveLimit => 9,
-        Kind::LongestTreeAboveLimit => 10,
-        Kind::TotalAboveLimit => 11,
-        Kind::TreeTooLong => 12,
-        Kind::NotATree => 13,
-        Kind::NotAccepted => 14,
-        Kind::NumberNotBelowTotal => 15,
-        Kind::ShortTreeList => 16,
-        Kind::FaultyNames => 17,
-        Kind::TextTooLong => 18,
-        Kind::NotATerm => 19,
-        Kind::UnlistedName => 20,
-        Kind::TermTreeTooLong => 21,
-        Kind::ShortTermTree => 22,
-        Kind::UnnamedSymbol => 23,
-        Kind::ShortTextList => 24,
-    }
+    k as u32
 }

@@ -19,7 +19,7 @@ use Rattle.model.proofs.Alike.{same_folded, same_sym, same_trans}
 use Rattle.model.proofs.Names.{some_lines, no_lines, line_first, line_none}
 use Rattle.words.specs.Words.{is_inner}
 use Rattle.chains.specs.Chains.{Clear}
-use Rattle.chains.specs.declared.Found.TheVariants.{At, Nothing}
+use Rattle.std.specs.Prelude.{Some, None}
 use Rattle.chains.proofs.First.{first_none, first_is, apart}
 use Rattle.chains.proofs.Chains.{chained, chains_begin}
 use Rattle.model.proofs.Lists.{drop_next, same_long}
@@ -102,7 +102,7 @@ module _ (names : List ℕ) (at end : ℕ) (l : end ≡ at + length (stretch (dr
   end_byte = ap (λ (i : ℕ). is_inner (get_or names i 0)) l ∙ sym (ap (λ (x : ℕ). is_inner x) (get_or-drop at names (length (stretch (drop at names))) 0)) ∙ (stretch_split (drop at names)).1
 
   -- at the list's end
-  pub end_open : end ≡ length names → Nothing ≡ name_end names at
+  pub end_open : end ≡ length names → None ≡ name_end names at
   unfolding name_end
   end_open e =
       let r : drop at names ≡ stretch (drop at names) = rest_is ∙ ap (λ (x : List ℕ). stretch (drop at names) ++ x) (drop_of_length-le names {i = end} (omega arith)) ∙ append-nil (stretch (drop at names)) in
@@ -110,7 +110,7 @@ module _ (names : List ℕ) (at end : ℕ) (l : end ≡ at + length (stretch (dr
       rw (f, and-false)
 
   -- before another byte than 10
-  pub end_bad : end < length names → (get_or names end 0 ≡ 10 → ⊥) → Nothing ≡ name_end names at
+  pub end_bad : end < length names → (get_or names end 0 ≡ 10 → ⊥) → None ≡ name_end names at
   unfolding name_end
   end_bad m ne =
       let r : drop at names ≡ stretch (drop at names) ++ get_or names end 0 ∷ drop (suc end) names = rest_is ∙ ap (λ (x : List ℕ). stretch (drop at names) ++ x) (drop-cons names end 0 m) in
@@ -137,21 +137,21 @@ module _ (names : List ℕ) (at end : ℕ) (l : end ≡ at + length (stretch (dr
         rest_is ∙ ap (λ (x : List ℕ). stretch (drop at names) ++ x) (drop-cons names end 0 m ∙ ap (λ (x : ℕ). x ∷ drop (suc end) names) ten) in
         ap (λ (x : List ℕ). line_at x 0) r ∙ ap (λ (x : List Line). get_or x 0 no_line) (first_inner (stretch (drop at names)) (drop (suc end) names) (stretch_inner (drop at names)))
 
-    ended_by : name_end names at ≡ (if is_name (stretch (drop at names)) then At end else Nothing)
+    ended_by : name_end names at ≡ (if is_name (stretch (drop at names)) then Some end else None)
     unfolding name_end
     ended_by = rw (line_is, and_yes, l)
 
-    no_end_lem : is_name (stretch (drop at names)) ≡ false → Nothing ≡ name_end names at
+    no_end_lem : is_name (stretch (drop at names)) ≡ false → None ≡ name_end names at
     no_end_lem f = sym (rw f at ended_by)
 
-    pub end_long : 24 < end - at → Nothing ≡ name_end names at
+    pub end_long : 24 < end - at → None ≡ name_end names at
     end_long h = no_end_lem (is_false (is_name (stretch (drop at names))) (λ e. absurd (omega (arith, l, name_short (stretch (drop at names)) e))))
 
-    pub end_unnamed : all_name_bytes (take (end - at) (drop at names)) ≡ false → Nothing ≡ name_end names at
+    pub end_unnamed : all_name_bytes (take (end - at) (drop at names)) ≡ false → None ≡ name_end names at
     end_unnamed h =
         no_end_lem (is_false (is_name (stretch (drop at names))) (λ e. not_both (all_name_bytes (stretch (drop at names))) (name_bytes_lem (stretch (drop at names)) e) (rw part_stretch at h)))
 
-    pub end_name : end - at ≤ 24 → all_name_bytes (take (end - at) (drop at names)) ≡ true → is_letter (get_or names at 0) ≡ true → At end ≡ name_end names at
+    pub end_name : end - at ≤ 24 → all_name_bytes (take (end - at) (drop at names)) ≡ true → is_letter (get_or names at 0) ≡ true → Some end ≡ name_end names at
     end_name h a e =
         let q = stretch_more names at (omega (arith, l)) (byte_inner (get_or names at 0) (letter_byte (get_or names at 0) e)) in
         let c = byte_others (get_or names at 0) (stretch (drop (at + 1) names)) (rw q at (rw part_stretch at a)) in
@@ -160,7 +160,7 @@ module _ (names : List ℕ) (at end : ℕ) (l : end ≡ at + length (stretch (dr
         ap (λ (x : List ℕ). is_name x) q ∙ name_made (get_or names at 0) (stretch (drop (at + 1) names)) e c (omega (arith, n, l)) in
         sym (rw f at ended_by)
 
-    pub end_no_letter : is_letter (get_or names at 0) ≡ false → Nothing ≡ name_end names at
+    pub end_no_letter : is_letter (get_or names at 0) ≡ false → None ≡ name_end names at
     end_no_letter e = no_end_lem (is_false (is_name (stretch (drop at names))) (λ t. go (name_parts (stretch (drop at names)) t)))
       where
         go : IsName (stretch (drop at names)) → ⊥
@@ -172,7 +172,7 @@ module _ (names : List ℕ) (at end : ℕ) (l : end ≡ at + length (stretch (dr
 -- ---- the lines taken so far
 
 -- a name that is found on no line is on none of them
-pub found_none : (names : List ℕ) (n : ℕ) (name : List ℕ) → name_found names n name ≡ Nothing → (k : ℕ) → k < n → same_name (line_at names k).bytes name ≡ false
+pub found_none : (names : List ℕ) (n : ℕ) (name : List ℕ) → name_found names n name ≡ None → (k : ℕ) → k < n → same_name (line_at names k).bytes name ≡ false
 found_none names n name e k l = is_false (same_name (line_at names k).bytes name) (first_none (λ j. same_name (line_at names j).bytes name) n e k l)
 
 -- the first n lines are without fault, and the next one begins at `at`
@@ -225,22 +225,22 @@ module _ {seed : ℕ} {names starts heads next : List ℕ} {n at : ℕ} (s : Sof
   pub too_many_lem : 255 ≤ n → (o : Outcome) → refused 17 n ≡ names_then names o
   too_many_lem h = faulty (rw (or-true) at (ground _ _ true _ refl refl (le-leb 255 n h) refl))
 
-  pub no_name : name_end names at ≡ Nothing → (o : Outcome) → refused 17 n ≡ names_then names o
+  pub no_name : name_end names at ≡ None → (o : Outcome) → refused 17 n ≡ names_then names o
   unfolding name_end
   no_name e = faulty (go (is_name (line_at names n).bytes) (line_at names n).ended refl refl e')
     where
-      e' : (if is_name (line_at names n).bytes && (line_at names n).ended then At (at + length (line_at (drop at names) 0).bytes) else Nothing) ≡ Nothing
+      e' : (if is_name (line_at names n).bytes && (line_at names n).ended then Some (at + length (line_at (drop at names) 0).bytes) else None) ≡ None
       e' = rw (here) e
 
       go : (a b : Bool) → is_name (line_at names n).bytes ≡ a → (line_at names n).ended ≡ b
-          → (if a && b then At (at + length (line_at (drop at names) 0).bytes) else Nothing) ≡ Nothing → line_ground names n ≡ 17
+          → (if a && b then Some (at + length (line_at (drop at names) 0).bytes) else None) ≡ None → line_ground names n ≡ 17
       go true true p q f = apart _ f
       go true false p q f = rw (or-true) at (ground _ _ _ true refl refl refl (ap (λ (t : Bool). not t) q))
       go false b p q f = ground true _ _ _ (ap (λ (t : Bool). not t) p) refl refl refl
 
   -- the line is a name, and ends before byte 10
-  module _ (end : ℕ) (e : name_end names at ≡ At end) where
-    found_by_lem : (t : Bool) (x : ℕ) → (if t then At x else Nothing) ≡ At end → (t ≡ true) × (x ≡ end)
+  module _ (end : ℕ) (e : name_end names at ≡ Some end) where
+    found_by_lem : (t : Bool) (x : ℕ) → (if t then Some x else None) ≡ Some end → (t ≡ true) × (x ≡ end)
     found_by_lem true x f = (refl, cc)
     found_by_lem false x f = apart end (sym f)
 
@@ -301,13 +301,13 @@ module _ {seed : ℕ} {names starts heads next : List ℕ} {n at : ℕ} (s : Sof
     part_inner = ap all_inner part_is ∙ inner
 
     -- the name stands on an earlier line
-    pub again : (k : ℕ) → name_found names n (take (end - at) (drop at names)) ≡ At k → (o : Outcome) → refused 17 n ≡ names_then names o
+    pub again : (k : ℕ) → name_found names n (take (end - at) (drop at names)) ≡ Some k → (o : Outcome) → refused 17 n ≡ names_then names o
     again k f =
         let g = first_is (λ j. same_name (line_at names j).bytes (line_at names n).bytes) n k (rw (part_is) at f) in
         faulty (rw (or-true) at (ground _ true _ _ refl (any_true n k (λ j. same_name (line_at names j).bytes (line_at names n).bytes) g.0 g.1) refl refl))
 
     -- it stands on none
-    module _ (few : n < 255) (b : ℕ) (q : b ≡ hash_of seed (take (end - at) (drop at names))) (lt : b < 512) (none : name_found names n (take (end - at) (drop at names)) ≡ Nothing) where
+    module _ (few : n < 255) (b : ℕ) (q : b ≡ hash_of seed (take (end - at) (drop at names))) (lt : b < 512) (none : name_found names n (take (end - at) (drop at names)) ≡ None) where
       new : (j : ℕ) → j < n → same_name (line_at names j).bytes (line_at names n).bytes ≡ false
       new = found_none names n (line_at names n).bytes (rw (part_is) at none)
 
@@ -394,14 +394,14 @@ no_earlier {names = names} x name p l t k m u =
     (x.apart k p m l)
 
 -- a name found among all lines is listed, and its symbol is 1 more than the line; one that is not found is not listed
-pub found_listed : (names name : List ℕ) (n k : ℕ) → n ≡ how_many_names names → name_found names n name ≡ At k → (is_listed names name ≡ true) × (symbol_of names name ≡ k + 1) × (k < n)
+pub found_listed : (names name : List ℕ) (n k : ℕ) → n ≡ how_many_names names → name_found names n name ≡ Some k → (is_listed names name ≡ true) × (symbol_of names name ≡ k + 1) × (k < n)
 unfolding is_listed symbol_of
 found_listed names name n k e f =
     let g = first_is (λ j. same_name (line_at names j).bytes name) n k f in
     let w = line_first (lines_of names) name k (omega (arith, g.0)) g.1 (λ j l. is_false (same_name (line_at names j).bytes name) (g.2 j l)) in
     (lt-ltb (line_with (lines_of names) name) (how_many_names names) (omega (arith, g.0)), omega arith, g.0)
 
-pub not_found_listed : (names name : List ℕ) (n : ℕ) → n ≡ how_many_names names → name_found names n name ≡ Nothing → is_listed names name ≡ false
+pub not_found_listed : (names name : List ℕ) (n : ℕ) → n ≡ how_many_names names → name_found names n name ≡ None → is_listed names name ≡ false
 unfolding is_listed
 not_found_listed names name n e f =
     let w = line_none (lines_of names) name (λ k l. found_none names n name f k (omega arith)) in

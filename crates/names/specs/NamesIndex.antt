@@ -6,19 +6,19 @@ use Rattle.model.specs.Names.{is_name, same_name, line_at, how_many_names, names
 use Rattle.chains.specs.First.{first_with}
 use Rattle.words.specs.Words.{is_inner, is_list_byte, packed}
 use Rattle.chains.specs.Chains.{Chains}
-use Rattle.chains.specs.declared.Found.{Found}
-use Rattle.chains.specs.declared.Found.TheVariants.{At, Nothing}
+use Rattle.std.specs.Prelude.{Option}
+use Rattle.std.specs.Prelude.{Some, None}
 use Rattle.names.specs.declared.Stretch.{Stretch}
 use Rattle.names.specs.declared.NamesCheck.{NamesCheck}
 use Rattle.names.specs.declared.NamesCheck.TheVariants.{Sound, Faulty}
 
 -- where the name of the line that begins at `at` ends; nothing where the line is no name, or byte 10 does not follow
-unfoldable pub name_end : List ℕ → ℕ → Found
+unfoldable pub name_end : List ℕ → ℕ → Option ℕ
 name_end names at =
-    if is_name (line_at (drop at names) 0).bytes && (line_at (drop at names) 0).ended then At (at + length (line_at (drop at names) 0).bytes) else Nothing
+    if is_name (line_at (drop at names) 0).bytes && (line_at (drop at names) 0).ended then Some (at + length (line_at (drop at names) 0).bytes) else None
 
 -- the first of the first n lines whose name is equal to this
-abbrev pub name_found : List ℕ → ℕ → List ℕ → Found
+abbrev pub name_found : List ℕ → ℕ → List ℕ → Option ℕ
 name_found names n name = first_with (λ k. same_name (line_at names k).bytes name) n
 
 -- a byte with the bit set by which a small letter differs from the capital one

@@ -7,7 +7,7 @@ ghost use Rattle.chains.specs.Chains.{Clear};
 ghost use Rattle.words.specs.Words.{is_list_byte};
 ghost use Rattle.names.specs.NamesIndex.{caseless, all_inner, stretch, front_of, mixed, bucket_at, StretchFrom, OnlyListBytes, name_end, name_found, Lined, Sought, Started, NamesAnswer};
 
-use chains::{Found, wide};
+use chains::wide;
 use words::{foreign_bytes, inner_ahead, word_at, word_or_rest, words_alike};
 
 // What checking a names list finds: it keeps to the rules, and how many names it has, or the first faulty line.
@@ -227,28 +227,28 @@ fn named(name: &[u8], clean: bool) -> bool
 
 // Where the name of the line that begins at `at` ends, if the line is a name followed by byte 10; `end` is where the stretch from there ends, and
 // where `clean` is true only name bytes and byte 10 stand in the list.
-fn name_end(names: &[u8], clean: bool, at: usize, end: usize) -> Found
+fn name_end(names: &[u8], clean: bool, at: usize, end: usize) -> Option<usize>
     requires at_in_bounds { at < length names.now }
     requires end_value { (end ≡ at + length (stretch (drop at names.now))) × (end ≤ length names.now) }
     requires only_list_bytes { clean ≡ true → OnlyListBytes 0 names.now }
     ensures { result ≡ name_end names.now at }
 {
     if end == names.len() {
-        return Found::Nothing;
+        return None;
     }
     if names[end] != b'\n' {
-        return Found::Nothing;
+        return None;
     }
     if 24 < end - at {
-        return Found::Nothing;
+        return None;
     }
     if !named(&names[at..end], clean) {
-        return Found::Nothing;
+        return None;
     }
     if is_letter(names[at]) {
-        return Found::At(end);
+        return Some(end);
     }
-    Found::Nothing
+    None
 }
 
 // The name on a line, as a part of the list.
@@ -271,7 +271,7 @@ pub fn find_name(
     n: usize,
     b: usize,
     name: &[u8],
-) -> Found
+) -> Option<usize>
     requires sought { Sought names.now starts.now heads.now next.now n name.now b }
     requires name_value { all_inner name.now ≡ true }
     ensures { result ≡ name_found names.now n name.now }
@@ -280,11 +280,11 @@ pub fn find_name(
     while 0 < p {
         let k = p - 1;
         if same_name(name_at(names, starts, n, k), name) {
-            return Found::At(k);
+            return Some(k);
         }
         p = wide(next[k]);
     }
-    Found::Nothing
+    None
 }
 
 // Finds the first faulty line. Where there is none, `starts` then holds where each line begins, and `heads` and `next` index the names.
@@ -307,11 +307,11 @@ pub fn check_names(
             return NamesCheck::Faulty(n);
         }
         let stretch = stretch_at(names, at, seed);
-        let Found::At(end) = name_end(names, clean, at, stretch.end) else {
+        let Some(end) = name_end(names, clean, at, stretch.end) else {
             return NamesCheck::Faulty(n);
         };
         let b = stretch.bucket;
-        if let Found::At(_) = find_name(names, &*starts, &*heads, &*next, n, b, &names[at..end]) {
+        if let Some(_) = find_name(names, &*starts, &*heads, &*next, n, b, &names[at..end]) {
             return NamesCheck::Faulty(n);
         }
         next[n] = heads[b];

@@ -21,9 +21,9 @@ use Rattle.model.specs.Entries.{tree_then, tree_from}
 use Rattle.model.specs.Value.{tree_number, tree_of}
 use Rattle.model.specs.Number.{checked_then, accepted_then, number_tree, number_outcome}
 use Rattle.model.specs.Write.{tree_fits, tree_entries, write_tree, write_tree_list, write_outcome, write_list}
-use Rattle.model.specs.declared.Answer.{Answer}
-use Rattle.model.specs.declared.Answer.TheVariants.{Result, Refused}
+use Rattle.std.specs.Prelude.{Result}
 use Rattle.model.specs.declared.Refusal.{Refusal}
+use Rattle.std.specs.Prelude.{Ok, Err}
 use Rattle.model.proofs.Good.{Good, Within}
 use Rattle.model.proofs.Counting.{total_is as total_sum}
 use Rattle.model.proofs.Used.{used_state}
@@ -80,14 +80,14 @@ then_same f e = ap (λ (x : Outcome). checked_then x f) e
 module _ {prepare : Bool} {states : ℕ} {rows accepting words heads first counts sums : List ℕ} {k : Checked}
     (a : CheckAnswer prepare states rows accepting words heads first counts sums k) (tree old : List ℕ) where
   -- the check refuses
-  pub check_refused : (task : Task) (f : Refusal) → k ≡ Refuses f → Answered task states rows accepting tree old old (Refused f)
+  pub check_refused : (task : Task) (f : Refusal) → k ≡ Refuses f → Answered task states rows accepting tree old old (Err f)
   unfolding number_outcome number_tree write_outcome write_tree write_list write_tree_list
   check_refused task f e = by_task task
     where
       refuses : refused_by f ≡ check_outcome states rows accepting
       refuses = ap told (sym e) ∙ a.answer
 
-      by_task : (task : Task) → Answered task states rows accepting tree old old (Refused f)
+      by_task : (task : Task) → Answered task states rows accepting tree old old (Err f)
       by_task Check = record { answer = refuses; list = refl }
       by_task Number = record { answer = then_same _ refuses; list = refl }
       by_task (Write number) = record {
@@ -99,7 +99,7 @@ module _ {prepare : Bool} {states : ℕ} {rows accepting words heads first count
     passes : Passes states rows accepting t
     passes = sym a.answer ∙ ap told e
 
-    pub check_passed : Answered Check states rows accepting tree old old (Result t)
+    pub check_passed : Answered Check states rows accepting tree old old (Ok t)
     check_passed = record { answer = sym passes; list = refl }
 
   -- numbering and writing go on from what the check leaves
@@ -132,7 +132,7 @@ module _ {prepare : Bool} {states : ℕ} {rows accepting words heads first count
     pub number_ready : prepare ≡ true → RankReady by rows (take n words) heads accepting counts sums
     number_ready y = rank_ready (table_ready y)
 
-    pub number_answers : prepare ≡ true → (r : Answer) → outcome r ≡ tree_then tree (machine (rows_in rows (take n words)) accepting counts sums tree) → Answered Number states rows accepting tree old old r
+    pub number_answers : prepare ≡ true → (r : Result ℕ Refusal) → outcome r ≡ tree_then tree (machine (rows_in rows (take n words)) accepting counts sums tree) → Answered Number states rows accepting tree old old r
     unfolding number_outcome number_tree
     number_answers y r h = record {
       answer =
@@ -231,7 +231,7 @@ module _ {prepare : Bool} {states : ℕ} {rows accepting words heads first count
       unfolding write_outcome write_tree
       follows = then_same (λ m. write_below m number (tree_fits (length old) (length (tree_entries (table_of states rows accepting) number)))) (sym (passes t n by e))
 
-      pub write_answers : (new : List ℕ) (r : Answer) → WroteBelow (rows_in rows (take n words)) accepting counts t number old new r → Answered (Write number) states rows accepting tree old new r
+      pub write_answers : (new : List ℕ) (r : Result ℕ Refusal) → WroteBelow (rows_in rows (take n words)) accepting counts t number old new r → Answered (Write number) states rows accepting tree old new r
       unfolding write_list write_tree_list write_outcome
       write_answers new r w =
           let y = answered (number_entries (rows_in rows (take n words)) accepting counts number) same_entries in
@@ -250,5 +250,5 @@ pub prepares_so : {task known : Task} {prepare : Bool} → prepare ≡ task_prep
 prepares_so p e k = p ∙ ap task_prepares e ∙ k
 
 -- a task that is known
-pub for_task : {task known : Task} {states : ℕ} {rows accepting tree old new : List ℕ} {r : Answer} → task ≡ known → Answered known states rows accepting tree old new r → Answered task states rows accepting tree old new r
+pub for_task : {task known : Task} {states : ℕ} {rows accepting tree old new : List ℕ} {r : Result ℕ Refusal} → task ≡ known → Answered known states rows accepting tree old new r → Answered task states rows accepting tree old new r
 for_task {states = states} {rows} {accepting} {tree} {old} {new} {r} e x = subst (λ (t : Task). Answered t states rows accepting tree old new r) (sym e) x

@@ -4,7 +4,8 @@ use Rattle.model.specs.Answers.{Outcome, outcome}
 use Rattle.model.specs.Check.{check_outcome}
 use Rattle.model.specs.Number.{number_outcome}
 use Rattle.model.specs.Write.{write_outcome, write_list}
-use Rattle.model.specs.declared.Answer.{Answer}
+use Rattle.std.specs.Prelude.{Result}
+use Rattle.model.specs.declared.Refusal.{Refusal}
 use Rattle.operations.specs.declared.Task.{Task}
 use Rattle.operations.specs.declared.Task.TheVariants.{Check, Number, Write}
 
@@ -27,11 +28,11 @@ task_prepares Check = false
 task_prepares Number = true
 task_prepares (Write number) = false
 
-pub record Answered (task : Task) (states : ℕ) (rows accepting tree old new : List ℕ) (r : Answer) : Type 0 where
+pub record Answered (task : Task) (states : ℕ) (rows accepting tree old new : List ℕ) (r : Result ℕ Refusal) : Type 0 where
   pub answer : outcome r ≡ task_outcome task states rows accepting tree (length old)
   pub list : new ≡ task_list task states rows accepting old
 
 -- writing the tree of a number: the answer, and what the lent list then holds
-pub record WroteTree (states : ℕ) (rows accepting : List ℕ) (number : ℕ) (old new : List ℕ) (r : Answer) : Type 0 where
+pub record WroteTree (states : ℕ) (rows accepting : List ℕ) (number : ℕ) (old new : List ℕ) (r : Result ℕ Refusal) : Type 0 where
   pub answer : outcome r ≡ write_outcome states rows accepting number (length old)
   pub list : new ≡ write_list states rows accepting number old

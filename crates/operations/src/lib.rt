@@ -61,9 +61,9 @@ fn answer_small(
         &mut used,
         &mut sums,
     ) {
-        Checked::Refuses(r) => Answer::Refused(r),
+        Checked::Refuses(r) => Err(r),
         Checked::Sound(total, n, by) => match task {
-            Task::Check => Answer::Result(total),
+            Task::Check => Ok(total),
             Task::Number => rank::number_prepared(
                 rows,
                 accepting,
@@ -121,9 +121,9 @@ fn answer_middle(
         &mut used,
         &mut sums,
     ) {
-        Checked::Refuses(r) => Answer::Refused(r),
+        Checked::Refuses(r) => Err(r),
         Checked::Sound(total, n, by) => match task {
-            Task::Check => Answer::Result(total),
+            Task::Check => Ok(total),
             Task::Number => rank::number_prepared(
                 rows,
                 accepting,
@@ -180,9 +180,9 @@ fn answer_full(
         &mut used,
         &mut sums,
     ) {
-        Checked::Refuses(r) => Answer::Refused(r),
+        Checked::Refuses(r) => Err(r),
         Checked::Sound(total, n, by) => match task {
-            Task::Check => Answer::Result(total),
+            Task::Check => Ok(total),
             Task::Number => rank::number_prepared(
                 rows,
                 accepting,

@@ -12,7 +12,7 @@ use Rattle.model.specs.Value.{horner}
 use Rattle.model.specs.Check.{count_limit}
 use Rattle.model.proofs.Lists.{drop_next}
 use Rattle.model.proofs.Values.{ValuesBelow, none_below, also_below, below_length, horner_from, horner_less}
-use Rattle.chains.specs.declared.Found.TheVariants.{At, Nothing}
+use Rattle.std.specs.Prelude.{Some, None}
 use Rattle.chains.proofs.First.{first_is}
 use Rattle.rows.specs.Words.{row_no, rows_in, target_in}
 use Rattle.rows.proofs.Words.{rows_long, row_held_lem}
@@ -74,7 +74,7 @@ fold_ends {cs} {xs} {vs} {h} {i} f g = rw (drop_of_length-le xs {i = i} g) at f.
 
 -- ---- the row of a node
 
-module _ (pool words : List ℕ) (s : ℕ) (xs : List ℕ) (k : ℕ) (found : row_found (rows_in pool words) s xs ≡ At k) where
+module _ (pool words : List ℕ) (s : ℕ) (xs : List ℕ) (k : ℕ) (found : row_found (rows_in pool words) s xs ≡ Some k) where
   pub found_inside : k < length words
   found_inside = rw (rows_long pool words) at (first_is (λ k. row_is (row_no (rows_in pool words) k) s xs) (length (rows_in pool words)) k found).0
 
@@ -92,7 +92,7 @@ module _ (pool words : List ℕ) (s : ℕ) (xs : List ℕ) (k : ℕ) (found : ro
       let t = found_target q e in
       rw found (λ j. Reaches (t j) ((d ∙ ap (formed cs sums xs vs k) t) j))
 
-pub node_stuck : (rows : List Row) (cs sums : List ℕ) (s : ℕ) (xs vs : List ℕ) → row_found rows s xs ≡ Nothing → Stuck ≡ node_of rows cs sums s xs vs
+pub node_stuck : (rows : List Row) (cs sums : List ℕ) (s : ℕ) (xs vs : List ℕ) → row_found rows s xs ≡ None → Stuck ≡ node_of rows cs sums s xs vs
 unfolding node_of
 node_stuck rows cs sums s xs vs e = rw e
 

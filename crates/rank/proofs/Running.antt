@@ -24,8 +24,8 @@ use Rattle.model.proofs.Lists.{drop_next}
 use Rattle.model.proofs.Rows.{row_is_true}
 use Rattle.model.proofs.Values.{horner_less}
 use Rattle.model.proofs.Entries.{well_formed, open_bound, tree_then_taken}
-use Rattle.chains.specs.declared.Found.{Found}
-use Rattle.chains.specs.declared.Found.TheVariants.{At, Nothing}
+use Rattle.std.specs.Prelude.{Option}
+use Rattle.std.specs.Prelude.{Some, None}
 use Rattle.chains.proofs.First.{first_is}
 use Rattle.rows.specs.Words.{row_no, rows_in}
 use Rattle.rows.proofs.Words.{rows_long}
@@ -115,10 +115,10 @@ step_closes s t e p =
 -- ---- a closed node
 
 -- what a node found by its row is
-by_row : (f : Found) (rows : List Row) (cs sums xs vs : List ℕ) (q v : ℕ) → node_by f rows cs sums xs vs ≡ Reaches q v
-    → (k : ℕ) × (f ≡ At k) × (q ≡ target rows k) × (v ≡ formed cs sums xs vs k (target rows k))
-by_row (At k) rows cs sums xs vs q v e = (k, refl, cc, cc)
-by_row Nothing rows cs sums xs vs q v e = let z : ◌≡◌ {A = ℕ} 0 1 = cc in absurd (omega arith)
+by_row : (f : Option ℕ) (rows : List Row) (cs sums xs vs : List ℕ) (q v : ℕ) → node_by f rows cs sums xs vs ≡ Reaches q v
+    → (k : ℕ) × (f ≡ Some k) × (q ≡ target rows k) × (v ≡ formed cs sums xs vs k (target rows k))
+by_row (Some k) rows cs sums xs vs q v e = (k, refl, cc, cc)
+by_row None rows cs sums xs vs q v e = let z : ◌≡◌ {A = ℕ} 0 1 = cc in absurd (omega arith)
 
 -- what waits: one value for each state; each state has trees, and the value is below its count, or 0 in a state that counts 0
 pub record Children (whole : ℕ → ℕ) (cs xs vs : List ℕ) : Type 0 where
@@ -132,21 +132,21 @@ module _ {by : ℕ} {pool words heads accepting cs sums : List ℕ} (ready : Ran
   held_rows = rows_in pool words
 
   -- the row that is found has these arguments
-  found_row : (k : ℕ) → row_found held_rows s xs ≡ At k → (k < length words) × ((row_no held_rows k).args ≡ xs)
+  found_row : (k : ℕ) → row_found held_rows s xs ≡ Some k → (k < length words) × ((row_no held_rows k).args ≡ xs)
   found_row k e =
       let f = first_is (λ k. row_is (row_no held_rows k) s xs) (length held_rows) k e in
       (rw (rows_long pool words) at f.0, (row_is_true (row_no held_rows k) s xs f.1).1)
 
   module _ (vs : List ℕ) (x : Children ready.whole cs xs vs) where
     -- where its target is used, the children's values are below their counts
-    valued : (k : ℕ) → row_found held_rows s xs ≡ At k → 0 < held cs (target held_rows k) → ValuesFit cs xs vs
+    valued : (k : ℕ) → row_found held_rows s xs ≡ Some k → 0 < held cs (target held_rows k) → ValuesFit cs xs vs
     valued k e p =
         let f = found_row k e in
         let a : AllCount ready.whole (row_no held_rows k).args = rw f.1 x.reached in
         let u : AllCount (held cs) xs = rw f.1 at (ready.used k f.0 a p) in
         record { many = x.many; placed = x.placed; below = λ j l. omega (arith, x.below j l, u j l) }
 
-    share : (k : ℕ) → row_found held_rows s xs ≡ At k → 0 < held cs (target held_rows k) → product (map (held cs) xs) + get_or sums k 0 ≤ held cs (target held_rows k)
+    share : (k : ℕ) → row_found held_rows s xs ≡ Some k → 0 < held cs (target held_rows k) → product (map (held cs) xs) + get_or sums k 0 ≤ held cs (target held_rows k)
     share k e p = let f = found_row k e in rw f.1 at (ready.shares k f.0 p)
 
     closes_within : Closable held_rows cs sums s xs vs
@@ -170,7 +170,7 @@ module _ {by : ℕ} {pool words heads accepting cs sums : List ℕ} (ready : Ran
         let q_is : q ≡ target held_rows k = r.2 in
         rw q_is (ready.targets k f.0, ready.reached k f.0 a, go k r.1 (eq-zero-or-pos (held cs (target held_rows k))) v r.3)
       where
-        go : (k : ℕ) → row_found held_rows s xs ≡ At k → (held cs (target held_rows k) ≡ 0) ⊎ (0 < held cs (target held_rows k)) → (v : ℕ) → v ≡ formed cs sums xs vs k (target held_rows k)
+        go : (k : ℕ) → row_found held_rows s xs ≡ Some k → (held cs (target held_rows k) ≡ 0) ⊎ (0 < held cs (target held_rows k)) → (v : ℕ) → v ≡ formed cs sums xs vs k (target held_rows k)
             → v < max 1 (held cs (target held_rows k))
         go k e (inl z) v d = omega (arith, unformed cs sums xs vs k (target held_rows k) z)
         go k e (inr p) v d =

@@ -30,8 +30,8 @@ use Rattle.model.proofs.Longest.{row_fits}
 use Rattle.model.proofs.Entries.{formed_well, tree_from_lem}
 use Rattle.model.proofs.Used.{used_args}
 use Rattle.model.proofs.UsedValues.{count_used, count_unused, used_just, just_used, row_used, earlier_used, total_used, formed_used, formed_unused, number_formed}
-use Rattle.chains.specs.declared.Found.{Found}
-use Rattle.chains.specs.declared.Found.TheVariants.{At, Nothing}
+use Rattle.std.specs.Prelude.{Option}
+use Rattle.std.specs.Prelude.{Some, None}
 use Rattle.chains.proofs.First.{first_is, first_none}
 use Rattle.rows.specs.Words.{row_no, rows_in, held_table}
 use Rattle.rows.proofs.Words.{rows_long}
@@ -153,8 +153,8 @@ module _ {by states : ℕ} {pool words heads accepting cs sums : List ℕ} (r : 
   unfolding node_of
   node_agrees s xs vs = go (row_found rows s xs) refl
     where
-      go : (f : Found) → row_found rows s xs ≡ f → node_by f rows cs sums xs vs ≡ row_node T (row_with rows s xs) vs
-      go (At i) e =
+      go : (f : Option ℕ) → row_found rows s xs ≡ f → node_by f rows cs sums xs vs ≡ row_node T (row_with rows s xs) vs
+      go (Some i) e =
           let f = first_is (λ j. row_is (row_no rows j) s xs) (length rows) i e in
           let y = row_is_true (row_no rows i) s xs f.1 in
           let w : IsRow rows i s (target rows i) xs = rw (y.0, y.1) at (row_is_lem i f.0) in
@@ -163,7 +163,7 @@ module _ {by states : ℕ} {pool words heads accepting cs sums : List ℕ} (r : 
           let there : ltb (target_of T i) states ≡ true = rw q (lt-ltb (target rows i) states (row_state i f.0)) in
           let v : formed cs sums xs vs i (target rows i) ≡ formed_value T i vs = value_agrees w vs in
           rw d ((λ j. Reaches (sym q j) (v j)) ∙ sym (node_yes T i vs there))
-      go Nothing e =
+      go None e =
           let none : ltb (target_of T (row_with rows s xs)) states ≡ false
           = is_false (ltb (target_of T (row_with rows s xs)) states) (λ y. absent (target_inside T (row_with rows s xs) (ltb-true (target_of T (row_with rows s xs)) states y))) in
           sym (node_no T (row_with rows s xs) vs none)

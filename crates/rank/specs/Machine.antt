@@ -5,8 +5,8 @@ use Rattle.model.specs.Answers.{Outcome, result, refused}
 use Rattle.model.specs.Reach.{entry_of}
 use Rattle.model.specs.Count.{sum}
 use Rattle.model.specs.Value.{horner}
-use Rattle.chains.specs.declared.Found.{Found}
-use Rattle.chains.specs.declared.Found.TheVariants.{At, Nothing}
+use Rattle.std.specs.Prelude.{Option}
+use Rattle.std.specs.Prelude.{Some, None}
 use Rattle.model.specs.Table.{Row}
 use Rattle.index.specs.Index.{row_found}
 use Rattle.counts.specs.Chain.{target}
@@ -20,9 +20,9 @@ unfoldable pub formed : (cs sums xs vs : List ℕ) (k q : ℕ) → ℕ
 formed cs sums xs vs k q = if eqb (held cs q) 0 then 0 else horner (held cs) 0 xs vs + get_or sums k 0
 
 -- the state and the value by the row that was found
-abbrev pub node_by : Found → (rows : List Row) (cs sums xs vs : List ℕ) → Node
-node_by (At k) rows cs sums xs vs = Reaches (target rows k) (formed cs sums xs vs k (target rows k))
-node_by Nothing rows cs sums xs vs = Stuck
+abbrev pub node_by : Option ℕ → (rows : List Row) (cs sums xs vs : List ℕ) → Node
+node_by (Some k) rows cs sums xs vs = Reaches (target rows k) (formed cs sums xs vs k (target rows k))
+node_by None rows cs sums xs vs = Stuck
 
 -- the state and the value of a tree with symbol s, whose children have the states xs and the values vs
 unfoldable pub node_of : (rows : List Row) (cs sums : List ℕ) (s : ℕ) (xs vs : List ℕ) → Node

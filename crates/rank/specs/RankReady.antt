@@ -3,7 +3,7 @@ use Rattle.std.specs.Prelude.{ℕ, ◌+◌, ◌*◌, ◌<◌, ◌≤◌, max, �
 use Rattle.model.specs.Table.{Row}
 use Rattle.model.specs.Count.{sum, product}
 use Rattle.model.specs.Check.{count_limit}
-use Rattle.chains.specs.declared.Found.TheVariants.{At}
+use Rattle.std.specs.Prelude.{Some}
 use Rattle.index.specs.Index.{Index, row_found}
 use Rattle.model.proofs.Good.{Good, Within}
 use Rattle.rows.specs.Words.{row_no, rows_in, nexts, held_table, Held}
@@ -32,7 +32,7 @@ pub record Formable (cs sums xs vs : List ℕ) (k q : ℕ) : Type 0 where
 
 -- by the row with the symbol and the states, where there is one
 abbrev pub Closable : (rows : List Row) (cs sums : List ℕ) (s : ℕ) (xs vs : List ℕ) → Type 0
-Closable rows cs sums s xs vs = (k : ℕ) → row_found rows s xs ≡ At k → Formable cs sums xs vs k (target rows k)
+Closable rows cs sums s xs vs = (k : ℕ) → row_found rows s xs ≡ Some k → Formable cs sums xs vs k (target rows k)
 
 -- a value below the count of its state, or 0 in a state that counts 0; and all counts of the accepting list together within the limit
 pub record Summable (accepting cs : List ℕ) (q v : ℕ) : Type 0 where

@@ -12,8 +12,7 @@ ghost use Rattle.counts.specs.States.{held};
 ghost use Rattle.rank.specs.Machine.{formed, node_of, numbered, machine};
 ghost use Rattle.rank.specs.RankReady.{Foldable, Formable, Closable, Summable, RankReady, StackRoom};
 
-use chains::Found;
-use model::{Answer, Kind, refused_answer};
+use model::{Answer, Kind, refuse};
 use tree::{Form, Reading, Step};
 
 // What closing a node gives: the state that the tree reaches and its value there; or that it reaches none.
@@ -67,11 +66,11 @@ fn close(
         symbol states.now values.now }
 {
     match index::find_row(pool, words, heads, by, symbol, states) {
-        Found::At(k) => {
+        Some(k) => {
             let q = rows::target_in(words[k]);
             Node::Reaches(q, value_in(counts, sums, states, values, k, q))
         }
-        Found::Nothing => Node::Stuck,
+        None => Node::Stuck,
     }
 }
 
@@ -86,12 +85,12 @@ fn number_in(accepting: &[u16], counts: &[u64], q: u16, value: u64, place: usize
     while i < accepting.len() {
         if accepting[i] == q {
             let number = value + earlier;
-            return Answer::Result(number);
+            return Ok(number);
         }
         earlier += counts[chains::wide(accepting[i])];
         i += 1;
     }
-    refused_answer(Kind::NotAccepted, place as u64)
+    Err(refuse(Kind::NotAccepted, place as u64))
 }
 
 // Opens a node inside d open ones: stores its symbol, and how many states are waiting.
@@ -165,13 +164,13 @@ fn number_tree(
                         i += 1;
                     }
                     Node::Stuck => {
-                        return refused_answer(Kind::NotAccepted, i as u64);
+                        return Err(refuse(Kind::NotAccepted, i as u64));
                     }
                 }
             }
             // not reached: no entry of a tree is refused
             Step::Refuses(r) => {
-                return Answer::Refused(r);
+                return Err(r);
             }
         }
     }
@@ -232,7 +231,7 @@ pub fn number_prepared(
         counts.now sums.now tree.now) }
 {
     match tree::check_tree(tree) {
-        Form::Refuses(r) => Answer::Refused(r),
+        Form::Refuses(r) => Err(r),
         Form::Tree => number_formed(pool, accepting, tree, words, heads, by, counts, sums),
     }
 }

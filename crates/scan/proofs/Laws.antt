@@ -13,7 +13,7 @@ use Rattle.model.specs.Names.{is_letter, is_name_byte}
 use Rattle.model.specs.Term as term
 use Rattle.model.specs.Term.{after_term, may_end}
 use Rattle.model.proofs.Lists.{drop_next}
-use Rattle.chains.specs.declared.Found.TheVariants.{At, Nothing}
+use Rattle.std.specs.Prelude.{Some, None}
 use Rattle.scan.specs.TextState.{seen, depth_of, place_of, scanned}
 use Rattle.scan.specs.declared.TextState.{TextState}
 use Rattle.scan.specs.declared.TextState.TheVariants.{Due, InName, Closed}
@@ -121,7 +121,7 @@ module _ {text : List ℕ} {r : TextState} {i : ℕ} (x : Read text r i) (l : i 
     same = ap (λ (j : ℕ). term.scan (seen n) j (drop (i + 1) text)) (add-one i) ∙ (rw (sym e) at here);
   }
 
-  pub stops_here : term.stops ≡ term.step (seen r) (get_or text i 0) → At i ≡ place_of (scanned text)
+  pub stops_here : term.stops ≡ term.step (seen r) (get_or text i 0) → Some i ≡ place_of (scanned text)
   stops_here e = ap (λ (s : term.Scan). place_of s) (rw (sym e) at here)
 
 module _ {text : List ℕ} {r : TextState} {i : ℕ} (x : Read text r i) (ge : length text ≤ i) where
@@ -129,8 +129,8 @@ module _ {text : List ℕ} {r : TextState} {i : ℕ} (x : Read text r i) (ge : l
   unfolding term.scan
   at_end = rw (drop_of_length-le text {i = i} ge) at x.same
 
-  pub is_term : may_end (seen r) ≡ true → Nothing ≡ place_of (scanned text)
+  pub is_term : may_end (seen r) ≡ true → None ≡ place_of (scanned text)
   is_term e = ap (λ (s : term.Scan). place_of s) (rw e at at_end)
 
-  pub too_soon : may_end (seen r) ≡ false → At i ≡ place_of (scanned text)
+  pub too_soon : may_end (seen r) ≡ false → Some i ≡ place_of (scanned text)
   too_soon e = ap (λ (s : term.Scan). place_of s) (rw e at at_end)

@@ -1,8 +1,8 @@
 -- The states in which the code reads a text, as document 01's definitions have them. Assumes nothing: these are definitions.
 use Rattle.std.specs.Prelude.{ℕ, List}
 use Rattle.model.specs.Term as term
-use Rattle.chains.specs.declared.Found.{Found}
-use Rattle.chains.specs.declared.Found.TheVariants.{At, Nothing}
+use Rattle.std.specs.Prelude.{Option}
+use Rattle.std.specs.Prelude.{Some, None}
 use Rattle.scan.specs.declared.TextState.{TextState}
 use Rattle.scan.specs.declared.TextState.TheVariants.{Due, InName, Closed}
 use Rattle.scan.specs.declared.TextStep.{TextStep}
@@ -25,9 +25,9 @@ depth_of (term.in_name depth bytes) = depth
 depth_of (term.closed depth) = depth
 
 -- the place at which a text stops being a term, if it does
-abbrev pub place_of : term.Scan → Found
-place_of term.passes = Nothing
-place_of (term.breaks_at place) = At place
+abbrev pub place_of : term.Scan → Option ℕ
+place_of term.passes = None
+place_of (term.breaks_at place) = Some place
 
 -- the whole text is read
 abbrev pub scanned : List ℕ → term.Scan

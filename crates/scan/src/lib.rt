@@ -5,7 +5,6 @@ ghost use Rattle.std.specs.Prelude.{◌≡◌, ◌<◌, ◌≤◌, length};
 ghost use Rattle.model.specs.Term.{in_name, after_term, step, may_end};
 ghost use Rattle.scan.specs.TextState.{seen, seen_step, depth_of, place_of, scanned};
 
-use chains::Found;
 use names::{is_letter, is_name_byte};
 
 // What has been read of a text. The first number is how many brackets are open.
@@ -88,7 +87,7 @@ fn may_end(r: TextState) -> bool
 }
 
 // The first byte with which no term can go on, or the text's length where it ends too soon; nothing where it is a term.
-pub fn scan_text(text: &[u8]) -> Found
+pub fn scan_text(text: &[u8]) -> Option<usize>
     requires { length text.now ≤ 65536 }
     ensures { result ≡ place_of (scanned text.now) }
 {
@@ -101,12 +100,12 @@ pub fn scan_text(text: &[u8]) -> Found
                 i += 1;
             }
             TextStep::Stops => {
-                return Found::At(i);
+                return Some(i);
             }
         }
     }
     if may_end(r) {
-        return Found::Nothing;
+        return None;
     }
-    Found::At(i)
+    Some(i)
 }

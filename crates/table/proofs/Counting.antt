@@ -8,8 +8,8 @@ use lib.ListN.{length}
 use borrow.Author.Tests.{lt-ltb, le-ltb}
 use Rattle.model.specs.declared.Kind.{Kind}
 use Rattle.model.specs.declared.Refusal.{Refusal}
-use Rattle.model.specs.declared.Answer.{Answer}
-use Rattle.model.specs.declared.Answer.TheVariants.{Refused}
+use Rattle.std.specs.Prelude.{Result}
+use Rattle.std.specs.Prelude.{Err}
 use Rattle.model.specs.Answers.{result, refused, kind_number, refused_by, outcome}
 use Rattle.model.specs.Table.{Row, Table, accepting_states}
 use Rattle.model.specs.Count.{sum, count, total}
@@ -95,7 +95,7 @@ module _ {states : ℕ} {pool words accepting first counts marks used sums : Lis
       module _ {prepare : Bool} {counts'' sums'' : List ℕ} {f : StateFault} (z : Settled prepare states pool accepting words' counts' counts'' sums' sums'' f) where
         -- a faulty state: 9 or 10
         pub states_fault : (q : ℕ) (k : Kind) (r : Refusal) → refused_by r ≡ refused (kind_number k) q → f ≡ At q k
-            → StatesAnswer prepare states pool words accepting words' first' counts'' sums'' (Refused r)
+            → StatesAnswer prepare states pool words accepting words' first' counts'' sums'' (Err r)
         states_fault q k r e h = record {
           answer = e ∙ fault_refused states q (kind_number k) (state_ground count_limit T) _ at.inside at.before at.here (kind_positive k) ∙ same_table;
           same = x.same;
@@ -115,7 +115,7 @@ module _ {states : ℕ} {pool words accepting first counts marks used sums : Lis
           listed_total = ap sum (map_agree (held counts'') (count T) 0 accepting (z.listed none)) ∙ sym (total_is T)
 
           -- no faulty state: the total decides
-          pub states_total : (r : Answer) → outcome r ≡ total_or11 (sum (map (held counts'') accepting)) → StatesAnswer prepare states pool words accepting words' first' counts'' sums'' r
+          pub states_total : (r : Result ℕ Refusal) → outcome r ≡ total_or11 (sum (map (held counts'') accepting)) → StatesAnswer prepare states pool words accepting words' first' counts'' sums'' r
           states_total r e = record {
             answer = e ∙ ap total_or11 listed_total ∙ sym (no_fault states (state_ground count_limit T) _ (z.fine none)) ∙ same_table;
             same = x.same;

@@ -14,7 +14,7 @@ use borrow.Author.Count.{below_more}
 use Rattle.model.specs.Choice.{any_below}
 use Rattle.model.specs.Check.{accepting_ground}
 use Rattle.model.proofs.Choice.{or_right}
-use Rattle.chains.specs.declared.Found.TheVariants.{At, Nothing}
+use Rattle.std.specs.Prelude.{Some, None}
 use Rattle.chains.specs.First.{AllFine, FirstAt}
 use Rattle.table.specs.Checked.{EntriesChecked}
 
@@ -47,16 +47,16 @@ marked true ne = refl
 marked false ne = absurd (ne refl)
 
 module _ {states : ℕ} {accepting seen : List ℕ} {i : ℕ} (x : Seeing states accepting seen i) (few : states ≤ 256) (lt : i < length accepting) (a : ℕ) (is : a ≡ get_or accepting i 0) where
-  entry_found : accepting_ground states accepting i ≡ 7 → EntriesChecked states accepting (At i)
+  entry_found : accepting_ground states accepting i ≡ 7 → EntriesChecked states accepting (Some i)
   entry_found e = record {
     none = λ h. let z : ◌≡◌ {A = ℕ} 0 1 = cc in absurd (omega arith);
     some = λ m h. same m h;
   }
     where
-      same : (m : ℕ) → At i ≡ At m → FirstAt (length accepting) (accepting_ground states accepting) m 7
+      same : (m : ℕ) → Some i ≡ Some m → FirstAt (length accepting) (accepting_ground states accepting) m 7
       same m h = let z : i ≡ m = cc in rw (← z) (record { inside = lt; before = x.fine; here = e })
 
-  pub no_state : states ≤ a → EntriesChecked states accepting (At i)
+  pub no_state : states ≤ a → EntriesChecked states accepting (Some i)
   unfolding accepting_ground
   no_state ge = entry_found (rw (le-ltb (get_or accepting i 0) states (rw is at ge)))
 
@@ -64,7 +64,7 @@ module _ {states : ℕ} {accepting seen : List ℕ} {i : ℕ} (x : Seeing states
     seen_is : get_or seen a 0 ≡ (if listed accepting i (get_or accepting i 0) then 1 else 0)
     seen_is = x.marks a (omega arith) ∙ ap (λ (q : ℕ). if listed accepting i q then 1 else 0) is
 
-    pub seen_before : (get_or seen a 0 ≡ 0 → ⊥) → EntriesChecked states accepting (At i)
+    pub seen_before : (get_or seen a 0 ≡ 0 → ⊥) → EntriesChecked states accepting (Some i)
     unfolding accepting_ground
     seen_before ne =
         let m : listed accepting i (get_or accepting i 0) ≡ true = marked (listed accepting i (get_or accepting i 0)) (rw seen_is at ne) in
@@ -97,7 +97,7 @@ module _ {states : ℕ} {accepting seen : List ℕ} {i : ℕ} (x : Seeing states
         fine = below_more _ i x.fine fine_here;
       }
 
-pub seeing_ends : {states : ℕ} {accepting seen : List ℕ} {i : ℕ} → Seeing states accepting seen i → length accepting ≤ i → EntriesChecked states accepting Nothing
+pub seeing_ends : {states : ℕ} {accepting seen : List ℕ} {i : ℕ} → Seeing states accepting seen i → length accepting ≤ i → EntriesChecked states accepting None
 seeing_ends {states} {accepting} {seen} {i} x ge = record {
   none = λ h j lt. x.fine j (omega (arith, x.within));
   some = λ m h. let z : ◌≡◌ {A = ℕ} 0 1 = cc in absurd (omega arith);

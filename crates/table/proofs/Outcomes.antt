@@ -21,8 +21,8 @@ use Rattle.rows.proofs.Words.{rows_long, after_at}
 use Rattle.index.specs.Taken.{AllTaken}
 use Rattle.counts.specs.Chain.{InOrder}
 use Rattle.table.specs.declared.Checked.TheVariants.{Sound, Refuses}
-use Rattle.model.specs.declared.Answer.{Answer}
-use Rattle.model.specs.declared.Answer.TheVariants.{Result, Refused}
+use Rattle.std.specs.Prelude.{Result}
+use Rattle.std.specs.Prelude.{Ok, Err}
 use Rattle.table.specs.Checked.{Blank, StatesReady, StatesAnswer, PreparedRows, CheckAnswer}
 
 -- the check from the states on, and from the accepting list on
@@ -119,12 +119,12 @@ module _ (accepting words : List ℕ) (n : ℕ) {by states : ℕ} {rows heads : 
     unfolding from_states
     from_here = ap (λ (rs : List Row). counts_outcome count_limit (record { states = states; rows = rs; accepting = accepting_states accepting })) x.same ∙ from_states_lem states rows accepting few rows_fine entries_fine
 
-    module _ {prepare : Bool} {ys first counts sums : List ℕ} {r : Answer} (y : StatesAnswer prepare states rows (take n words) accepting ys first counts sums r) where
-      pub total_refused : {words' heads' : List ℕ} (f : Refusal) → r ≡ Refused f → CheckAnswer prepare states rows accepting words' heads' first counts sums (Refuses f)
+    module _ {prepare : Bool} {ys first counts sums : List ℕ} {r : Result ℕ Refusal} (y : StatesAnswer prepare states rows (take n words) accepting ys first counts sums r) where
+      pub total_refused : {words' heads' : List ℕ} (f : Refusal) → r ≡ Err f → CheckAnswer prepare states rows accepting words' heads' first counts sums (Refuses f)
       total_refused f e = refused_answer f (ap outcome (sym e) ∙ y.answer ∙ from_here)
 
       -- the table passes: the part that was lent is what the first n words hold then
-      pub total_passed : (t : ℕ) → r ≡ Result t → (words' : List ℕ) → words' ≡ ys ++ drop n words → CheckAnswer prepare states rows accepting words' heads first counts sums (Sound t n by)
+      pub total_passed : (t : ℕ) → r ≡ Ok t → (words' : List ℕ) → words' ≡ ys ++ drop n words → CheckAnswer prepare states rows accepting words' heads first counts sums (Sound t n by)
       total_passed t e words' is = record { answer = ap outcome (sym e) ∙ y.answer ∙ from_here; passed = λ t' m by' h. other t' m by' h }
         where
           long : length ys ≡ n

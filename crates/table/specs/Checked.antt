@@ -1,13 +1,14 @@
 -- The check in its parts, and what a table that passes leaves for numbering and writing. Assumes nothing: these are definitions.
 use Rattle.std.specs.Prelude.{ℕ, ◌<◌, ◌≤◌, ◌≡◌, Bool, true, List, length, get_or, take, ltb, if◌then◌else◌}
 use Rattle.model.specs.declared.Kind.{Kind}
-use Rattle.model.specs.declared.Answer.{Answer}
-use Rattle.model.specs.declared.Answer.TheVariants.{Result}
+use Rattle.std.specs.Prelude.{Result}
+use Rattle.model.specs.declared.Refusal.{Refusal}
+use Rattle.std.specs.Prelude.{Ok}
 use Rattle.model.specs.Answers.{Outcome, result, refused, kind_number, refused_by, outcome}
 use Rattle.model.specs.Table.{rows_of, how_many_rows}
 use Rattle.model.specs.Check.{row_ground, accepting_ground, count_limit, counts_outcome, check_outcome}
-use Rattle.chains.specs.declared.Found.{Found}
-use Rattle.chains.specs.declared.Found.TheVariants.{At, Nothing}
+use Rattle.std.specs.Prelude.{Option}
+use Rattle.std.specs.Prelude.{Some, None}
 use Rattle.chains.specs.First.{AllFine, FirstAt}
 use Rattle.rows.specs.Words.{rows_in, nexts, afters, held_table, Held}
 use Rattle.rows.specs.Walk.{Room}
@@ -43,9 +44,9 @@ pub record RowsChecked (states : ℕ) (rows words heads : List ℕ) (r : Checked
   pub stopped : (n : ℕ) (k : Kind) → r ≡ Stopped n k → FirstAt (how_many_rows rows) (row_ground states rows) n (kind_number k)
 
 -- the accepting list: no entry is faulty, or the first that is
-pub record EntriesChecked (states : ℕ) (accepting : List ℕ) (r : Found) : Type 0 where
-  pub none : r ≡ Nothing → AllFine (length accepting) (accepting_ground states accepting)
-  pub some : (i : ℕ) → r ≡ At i → FirstAt (length accepting) (accepting_ground states accepting) i 7
+pub record EntriesChecked (states : ℕ) (accepting : List ℕ) (r : Option ℕ) : Type 0 where
+  pub none : r ≡ None → AllFine (length accepting) (accepting_ground states accepting)
+  pub some : (i : ℕ) → r ≡ Some i → FirstAt (length accepting) (accepting_ground states accepting) i 7
 
 -- "Last, a total above [the limit] is 11."
 abbrev pub total_or11 : ℕ → Outcome
@@ -75,11 +76,11 @@ pub record StatesCounted (prepare : Bool) (states : ℕ) (pool accepting words f
   pub counted : prepare ≡ true → UsedCounts (held_table states pool words accepting) counts sums
 
 -- "Then states are taken in turn from 0", and the total: what is answered, and what is left; the rows and their links of the index stay
-pub record StatesAnswer (prepare : Bool) (states : ℕ) (pool words₀ accepting words first counts sums : List ℕ) (r : Answer) : Type 0 where
+pub record StatesAnswer (prepare : Bool) (states : ℕ) (pool words₀ accepting words first counts sums : List ℕ) (r : Result ℕ Refusal) : Type 0 where
   pub answer : outcome r ≡ counts_outcome count_limit (held_table states pool words₀ accepting)
   pub same : rows_in pool words ≡ rows_in pool words₀
   pub links : nexts words ≡ nexts words₀
-  pub counted : (t : ℕ) → r ≡ Result t → StatesCounted prepare states pool accepting words first counts sums
+  pub counted : (t : ℕ) → r ≡ Ok t → StatesCounted prepare states pool accepting words first counts sums
 
 -- what a checked answer says
 abbrev pub told : Checked → Outcome

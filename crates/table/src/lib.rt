@@ -8,7 +8,7 @@ ghost use Rattle.counts.specs.States.{held, ArgsPlaced};
 ghost use Rattle.index.specs.Hash.{Multiplier};
 ghost use Rattle.table.specs.Checked.{Empty, CrowdReady, RowsReady, RowsChecked, EntriesChecked, total_or11, StatesReady, StatesAnswer, Blank, CheckAnswer};
 
-use chains::{Found, wider};
+use chains::wider;
 use index::{Walked, two_at};
 use model::{Answer, Kind, Refusal, refuse};
 use used::StateFault;
@@ -104,7 +104,7 @@ fn check_rows(states: u64, rows: &[u16], words: &mut [u64], heads: &mut [u16]) -
 }
 
 // The first accepting entry that is no state or equals an earlier one: 7.
-fn faulty_entry(states: u64, accepting: &[u16]) -> Found
+fn faulty_entry(states: u64, accepting: &[u16]) -> Option<usize>
     requires { states ≤ 256 }
     ensures { EntriesChecked states accepting.now result }
 {
@@ -113,15 +113,15 @@ fn faulty_entry(states: u64, accepting: &[u16]) -> Found
     while i < accepting.len() {
         let q = chains::wide(accepting[i]);
         if states <= chains::wider(accepting[i]) {
-            return Found::At(i);
+            return Some(i);
         }
         if seen[q] != 0 {
-            return Found::At(i);
+            return Some(i);
         }
         seen[q] = 1;
         i += 1;
     }
-    Found::Nothing
+    None
 }
 
 // The total; or 11 where it is above the largest number of 64 bits.
@@ -131,9 +131,9 @@ fn total_of(accepting: &[u16], counts: &[u64]) -> Answer
 {
     let total = counts::sum_of(accepting, counts);
     if total.over != 0 {
-        return Answer::Refused(refuse(Kind::TotalAboveLimit, 0));
+        return Err(refuse(Kind::TotalAboveLimit, 0));
     }
-    Answer::Result(total.count)
+    Ok(total.count)
 }
 
 // The rest of the check, from the states on, where the rows and the accepting list are without fault. Unless it is to prepare for numbering, used
@@ -159,7 +159,7 @@ fn check_states(
     match used::settle(
         prepare, states, pool, accepting, &*words, &*first, counts, &*marks, used, sums,
     ) {
-        StateFault::At(q, kind) => Answer::Refused(refuse(kind, q as u64)),
+        StateFault::At(q, kind) => Err(refuse(kind, q as u64)),
         StateFault::Nothing => total_of(accepting, &*counts),
     }
 }
@@ -188,8 +188,8 @@ pub fn check_into(
     match check_rows(states, rows, words, heads) {
         CheckedRows::Stopped(r, kind) => Checked::Refuses(refuse(kind, r as u64)),
         CheckedRows::Passed(n, by) => match faulty_entry(states, accepting) {
-            Found::At(i) => Checked::Refuses(refuse(Kind::AcceptingEntry, i as u64)),
-            Found::Nothing => match check_states(
+            Some(i) => Checked::Refuses(refuse(Kind::AcceptingEntry, i as u64)),
+            None => match check_states(
                 prepare,
                 states as usize,
                 rows,
@@ -201,8 +201,8 @@ pub fn check_into(
                 used,
                 sums,
             ) {
-                Answer::Refused(r) => Checked::Refuses(r),
-                Answer::Result(total) => Checked::Sound(total, n, by),
+                Err(r) => Checked::Refuses(r),
+                Ok(total) => Checked::Sound(total, n, by),
             },
         },
     }

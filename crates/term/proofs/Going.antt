@@ -17,7 +17,7 @@ use Rattle.model.proofs.Lists.{drop_next}
 use Rattle.model.proofs.Scan.{whole_term}
 use Rattle.model.proofs.Bytes.{letter_byte, byte_first, byte_others, name_bytes_lem, name_parts, NoByte, run_all, run_bytes}
 use Rattle.model.proofs.Alike.{same_folded, small_name}
-use Rattle.chains.specs.declared.Found.TheVariants.{At, Nothing}
+use Rattle.std.specs.Prelude.{Some, None}
 use Rattle.chains.proofs.First.{first_is}
 use Rattle.words.specs.Words.{is_inner}
 use Rattle.names.specs.NamesIndex.{name_found, stretch}
@@ -240,7 +240,7 @@ module _ {names text entries : List ℕ} {at depth i : ℕ} (x : Going names tex
 
 -- no line has it
 pub go_unlisted : {names text entries : List ℕ} {at depth i : ℕ} → Going names text entries at depth i → (n end : ℕ) → n ≡ how_many_names names
-    → end ≡ i + length (stretch (drop i text)) → name_found names n (take (end - i) (drop i text)) ≡ Nothing → Passed names text entries (unlisted_at (scanned text) i)
+    → end ≡ i + length (stretch (drop i text)) → name_found names n (take (end - i) (drop i text)) ≡ None → Passed names text entries (unlisted_at (scanned text) i)
 go_unlisted {names} {text} {entries} {at} {depth} {i} x n end c e f = go (scanned text) refl
   where
     go : (s : Scan) → scanned text ≡ s → Passed names text entries (unlisted_at s i)
@@ -254,7 +254,7 @@ pub record NameFound (names text entries : List ℕ) (at depth i end n k : ℕ) 
   pub read : NameRead names text entries at depth i end
   pub short : end - i ≤ 24
   pub count : n ≡ how_many_names names
-  pub found : name_found names n (take (end - i) (drop i text)) ≡ At k
+  pub found : name_found names n (take (end - i) (drop i text)) ≡ Some k
 
 -- equal to a name, so a name
 name_same : (a b : List ℕ) → same_name a b ≡ true → is_name a ≡ true → is_name b ≡ true
@@ -271,7 +271,7 @@ run_stretch xs e =
 -- line k has what was looked up, and every line is a name
 module _ {names text entries : List ℕ} {at depth i : ℕ} (x : Going names text entries at depth i) (n k end : ℕ) (c : n ≡ how_many_names names)
     (e : end ≡ i + length (stretch (drop i text))) (w : end ≤ length text)
-    (all : (j : ℕ) → j < n → is_name (line_at names j).bytes ≡ true) (f : name_found names n (take (end - i) (drop i text)) ≡ At k) where
+    (all : (j : ℕ) → j < n → is_name (line_at names j).bytes ≡ true) (f : name_found names n (take (end - i) (drop i text)) ≡ Some k) where
   part : take (end - i) (drop i text) ≡ stretch (drop i text)
   part = part_stretch text i end e
 

@@ -14,15 +14,15 @@ use Rattle.model.specs.Names.{how_many_names, names_then}
 use Rattle.model.specs.Term.{Scan, passes, breaks_at}
 use Rattle.model.specs.Tree.{WellFormed}
 use Rattle.model.specs.TermOperations.{entries_of, bytes_of, fits_in, read_fits, read_named, symbol_ground, write_fits, write_formed, write_named, read_term_outcome, write_term_outcome, read_term_list, write_term_list}
-use Rattle.model.specs.declared.Answer.{Answer}
-use Rattle.model.proofs.Choice.{no_fault, fault_refused, is_false}
+use Rattle.std.specs.Prelude.{Result}
 use Rattle.model.specs.declared.Refusal.{Refusal}
+use Rattle.model.proofs.Choice.{no_fault, fault_refused, is_false}
 use Rattle.tree.specs.Reading.{Decides}
 use Rattle.tree.proofs.Laws.{list_refused, list_taken}
 use Rattle.tree.specs.declared.Form.{Form}
 use Rattle.tree.specs.declared.Form.TheVariants.{Refuses, Tree as FormTree}
 use Rattle.chains.specs.First.{first_with}
-use Rattle.chains.specs.declared.Found.TheVariants.{At, Nothing}
+use Rattle.std.specs.Prelude.{Some, None}
 use Rattle.chains.proofs.First.{first_is, first_none, apart}
 use Rattle.scan.specs.TextState.{place_of}
 use Rattle.term.specs.Emit.{entries_text}
@@ -36,13 +36,13 @@ use Rattle.term.specs.declared.Pass.TheVariants.{Breaks, Unlisted, Taken}
 use Rattle.term.proofs.EntriesText.{entries_text_lem}
 
 -- an answer with its list
-pub gave_refused : {o : Outcome} {written old : List ℕ} {r : Answer} (k p : ℕ) → outcome r ≡ refused k p → refused k p ≡ o → Gave o written old old r
+pub gave_refused : {o : Outcome} {written old : List ℕ} {r : Result ℕ Refusal} (k p : ℕ) → outcome r ≡ refused k p → refused k p ≡ o → Gave o written old old r
 gave_refused {o} {written} {old} k p a e = record { answer = a ∙ e; list = ap (λ (x : Outcome). lent_after x written old) e }
 
-pub gave_result : {o : Outcome} {written old new : List ℕ} {r : Answer} (n : ℕ) → outcome r ≡ result n → result n ≡ o → Front old new written → Gave o written old new r
+pub gave_result : {o : Outcome} {written old new : List ℕ} {r : Result ℕ Refusal} (n : ℕ) → outcome r ≡ result n → result n ≡ o → Front old new written → Gave o written old new r
 gave_result {o} {written} {old} n a e f = record { answer = a ∙ e; list = f.holds ∙ ap (λ (x : Outcome). lent_after x written old) e }
 
-pub gave_same : {o o' : Outcome} {written old new : List ℕ} {r : Answer} → o ≡ o' → Gave o written old new r → Gave o' written old new r
+pub gave_same : {o o' : Outcome} {written old new : List ℕ} {r : Result ℕ Refusal} → o ≡ o' → Gave o written old new r → Gave o' written old new r
 gave_same {o} {o'} {written} {old} e g = record { answer = g.answer ∙ e; list = g.list ∙ ap (λ (x : Outcome). lent_after x written old) e }
 
 -- ---- reading
@@ -58,11 +58,11 @@ pub fits_well : (needed room : ℕ) → needed ≤ 4096 → needed ≤ room → 
 fits_well needed room h l = rw (le-ltb 4096 needed h, le-ltb room needed l)
 
 -- 19 before 20
-pub unlisted_breaks : (s : Scan) (p place : ℕ) → At p ≡ place_of s → Breaks p ≡ unlisted_at s place
+pub unlisted_breaks : (s : Scan) (p place : ℕ) → Some p ≡ place_of s → Breaks p ≡ unlisted_at s place
 unlisted_breaks passes p place e = apart p e
 unlisted_breaks (breaks_at q) p place e = let z : p ≡ q = cc in ap Breaks z
 
-pub unlisted_whole : (s : Scan) (place : ℕ) → Nothing ≡ place_of s → Unlisted place ≡ unlisted_at s place
+pub unlisted_whole : (s : Scan) (place : ℕ) → None ≡ place_of s → Unlisted place ≡ unlisted_at s place
 unlisted_whole passes place e = refl
 unlisted_whole (breaks_at q) place e = apart q (sym e)
 
@@ -97,7 +97,7 @@ module _ {names text entries : List ℕ} {r : Pass} (x : Passed names text entri
       go true g = rw g
       go false g = ap (λ (y : List ℕ). lent_after (fits_in 4096 m room) y old) (kept_are m e (ltb-false 4096 m g))
 
-  pub told_gave : (m : ℕ) → r ≡ Taken m → {old new : List ℕ} {a : Answer} → Gave (fits_in 4096 m room) (take m entries) old new a → Gave (read_named 4096 names text room) (entries_of names text) old new a
+  pub told_gave : (m : ℕ) → r ≡ Taken m → {old new : List ℕ} {a : Result ℕ Refusal} → Gave (fits_in 4096 m room) (take m entries) old new a → Gave (read_named 4096 names text room) (entries_of names text) old new a
   told_gave m e {old} g = gave_same (fits_by m e) (record { answer = g.answer; list = g.list ∙ same_list_lem m e old })
 
 -- 18
@@ -117,7 +117,7 @@ pub read_by : (names text : List ℕ) (room : ℕ) → names_then names (read_na
 unfolding read_term_outcome
 read_by names text room = refl
 
-pub read_told : {names text old new : List ℕ} {r : Answer} → Gave (read_term_outcome names text (length old)) (entries_of names text) old new r → ReadTerm names text old new r
+pub read_told : {names text old new : List ℕ} {r : Result ℕ Refusal} → Gave (read_term_outcome names text (length old)) (entries_of names text) old new r → ReadTerm names text old new r
 unfolding read_term_list
 read_told g = record { answer = g.answer; list = g.list }
 
@@ -143,18 +143,18 @@ module _ (names tree : List ℕ) (n room : ℕ) (c : n ≡ how_many_names names)
   unfolding symbol_ground
   ground_is i t e = rw (sym c, e)
 
-  none_unnamed : first_with (λ i. ltb n (get_or tree i 0)) (length tree) ≡ Nothing → (i : ℕ) → i < length tree → ltb n (get_or tree i 0) ≡ false
+  none_unnamed : first_with (λ i. ltb n (get_or tree i 0)) (length tree) ≡ None → (i : ℕ) → i < length tree → ltb n (get_or tree i 0) ≡ false
   none_unnamed e i l = is_false (ltb n (get_or tree i 0)) (first_none (λ i. ltb n (get_or tree i 0)) (length tree) e i l)
 
-  pub unnamed : (p : ℕ) → first_with (λ i. ltb n (get_or tree i 0)) (length tree) ≡ At p → refused 23 p ≡ write_formed names tree room
+  pub unnamed : (p : ℕ) → first_with (λ i. ltb n (get_or tree i 0)) (length tree) ≡ Some p → refused 23 p ≡ write_formed names tree room
   unnamed p e =
       let f = first_is (λ i. ltb n (get_or tree i 0)) (length tree) p e in
       fault_refused (length tree) p 23 (symbol_ground names tree) (write_fits names tree room) f.0 (λ j l. ground_is j false (is_false (ltb n (get_or tree j 0)) (f.2 j l))) (ground_is p true f.1) (omega arith)
 
-  pub all_named : first_with (λ i. ltb n (get_or tree i 0)) (length tree) ≡ Nothing → write_fits names tree room ≡ write_formed names tree room
+  pub all_named : first_with (λ i. ltb n (get_or tree i 0)) (length tree) ≡ None → write_fits names tree room ≡ write_formed names tree room
   all_named e = sym (no_fault (length tree) (symbol_ground names tree) (write_fits names tree room) (λ i l. ground_is i false (none_unnamed e i l)))
 
-  pub named_low : length tree ≤ 4096 → first_with (λ i. ltb n (get_or tree i 0)) (length tree) ≡ Nothing → EntriesNamed n tree
+  pub named_low : length tree ≤ 4096 → first_with (λ i. ltb n (get_or tree i 0)) (length tree) ≡ None → EntriesNamed n tree
   named_low f e = record { few = f; named = λ i l. ltb-false n (get_or tree i 0) (none_unnamed e i l) }
 
 -- 12 and 13
@@ -169,6 +169,6 @@ pub write_by : (names tree : List ℕ) (room : ℕ) → names_then names (write_
 unfolding write_term_outcome
 write_by names tree room = refl
 
-pub write_told : {names tree old new : List ℕ} {r : Answer} → Gave (write_term_outcome names tree (length old)) (bytes_of names tree) old new r → WriteTerm names tree old new r
+pub write_told : {names tree old new : List ℕ} {r : Result ℕ Refusal} → Gave (write_term_outcome names tree (length old)) (bytes_of names tree) old new r → WriteTerm names tree old new r
 unfolding write_term_list
 write_told g = record { answer = g.answer; list = g.list }

@@ -15,7 +15,7 @@ use Rattle.model.specs.Term.{run, name_begins, name_at}
 use Rattle.model.specs.TermOperations.{name_ground}
 use Rattle.model.proofs.Bytes.{NoByte, end_no_byte, byte_first, byte_others, run_bytes}
 use Rattle.model.proofs.Lists.{drop_next}
-use Rattle.chains.specs.declared.Found.TheVariants.{At, Nothing}
+use Rattle.std.specs.Prelude.{Some, None}
 use Rattle.names.specs.NamesIndex.{name_found}
 use Rattle.names.proofs.Lines.{found_listed, not_found_listed}
 use Rattle.term.specs.Emit.{node_entries, emitted}
@@ -146,11 +146,11 @@ module _ (names text : List ℕ) (i end : ℕ) (l : i < length text) (e : is_nam
       go false p false r = let z : j ≡ i = omega (arith, ltb-false j i p, ltb-false i j r) in rw z g
 
   -- by what is found for it
-  pub listed_ground : (n k : ℕ) → n ≡ how_many_names names → name_found names n (take (end - i) (drop i text)) ≡ At k
+  pub listed_ground : (n k : ℕ) → n ≡ how_many_names names → name_found names n (take (end - i) (drop i text)) ≡ Some k
       → (name_ground names text i ≡ 0) × (symbol_of names (name_at text i) ≡ k + 1) × (k < n)
   listed_ground n k c f =
       let g = found_listed names (name_at text i) n k c (rw (part_is) at f) in
       (ground_by names text i _ true refl g.0 ∙ ap (λ (t : Bool). if t then 20 else 0) (and-false (name_begins text i)), g.1, g.2)
 
-  pub unlisted_ground : (n : ℕ) → n ≡ how_many_names names → Fresh text i → name_found names n (take (end - i) (drop i text)) ≡ Nothing → name_ground names text i ≡ 20
+  pub unlisted_ground : (n : ℕ) → n ≡ how_many_names names → Fresh text i → name_found names n (take (end - i) (drop i text)) ≡ None → name_ground names text i ≡ 20
   unlisted_ground n c h f = ground_by names text i true false (h e) (not_found_listed names (name_at text i) n c (rw (part_is) at f))

@@ -2,7 +2,8 @@
 use Rattle.std.specs.Prelude.{ℕ, ◌+◌, ◌<◌, ◌≤◌, ◌≡◌, List, ◌++◌, length, get_or, take, drop}
 use Rattle.model.specs.Answers.{Outcome, outcome, lent_after}
 use Rattle.model.specs.TermOperations.{entries_of, bytes_of, read_term_outcome, write_term_outcome, read_term_list, write_term_list}
-use Rattle.model.specs.declared.Answer.{Answer}
+use Rattle.std.specs.Prelude.{Result}
+use Rattle.model.specs.declared.Refusal.{Refusal}
 use Rattle.words.specs.Words.{Placed}
 
 -- a piece is put at a place, and the next place comes after it
@@ -24,23 +25,23 @@ pub record EntriesNamed (n : ℕ) (tree : List ℕ) : Type 0 where
   pub named : (i : ℕ) → i < length tree → get_or tree i 0 ≤ n
 
 -- the answer is the outcome, and the lent list then holds what is written and the old rest, or on a refusal the old list
-pub record Gave (o : Outcome) (written old new : List ℕ) (r : Answer) : Type 0 where
+pub record Gave (o : Outcome) (written old new : List ℕ) (r : Result ℕ Refusal) : Type 0 where
   pub answer : outcome r ≡ o
   pub list : new ≡ lent_after o written old
 
 -- reading a term, and writing one, where the answer is given by a definition that takes the lent list's length
-abbrev pub ReadBy : (answered : (names text : List ℕ) (room : ℕ) → Outcome) (names text old new : List ℕ) → Answer → Type 0
+abbrev pub ReadBy : (answered : (names text : List ℕ) (room : ℕ) → Outcome) (names text old new : List ℕ) → Result ℕ Refusal → Type 0
 ReadBy answered names text old new r = Gave (answered names text (length old)) (entries_of names text) old new r
 
-abbrev pub WriteBy : (answered : (names tree : List ℕ) (room : ℕ) → Outcome) (names tree old new : List ℕ) → Answer → Type 0
+abbrev pub WriteBy : (answered : (names tree : List ℕ) (room : ℕ) → Outcome) (names tree old new : List ℕ) → Result ℕ Refusal → Type 0
 WriteBy answered names tree old new r = Gave (answered names tree (length old)) (bytes_of names tree) old new r
 
 -- reading a term: the answer, and what the lent tree list then holds
-pub record ReadTerm (names text old new : List ℕ) (r : Answer) : Type 0 where
+pub record ReadTerm (names text old new : List ℕ) (r : Result ℕ Refusal) : Type 0 where
   pub answer : outcome r ≡ read_term_outcome names text (length old)
   pub list : new ≡ read_term_list names text old
 
 -- writing a term: the answer, and what the lent text list then holds
-pub record WriteTerm (names tree old new : List ℕ) (r : Answer) : Type 0 where
+pub record WriteTerm (names tree old new : List ℕ) (r : Result ℕ Refusal) : Type 0 where
   pub answer : outcome r ≡ write_term_outcome names tree (length old)
   pub list : new ≡ write_term_list names tree old

@@ -12,8 +12,8 @@ ghost use Rattle.term.specs.Emit.{entry_text, closing, mark_after, entries_text}
 ghost use Rattle.term.specs.Written.{Put, Copied, Front, EntriesNamed, Gave, ReadBy, WriteBy, ReadTerm, WriteTerm};
 ghost use Rattle.term.specs.Pass.{Closing, Follows, unlisted_at, SymbolPut, Cleared, Passed};
 
-use chains::{Found, wide};
-use model::{Answer, Kind, refused_answer};
+use chains::wide;
+use model::{Answer, Kind, refuse};
 use names::{NamesCheck, check_names, find_name, list_seed, name_at, stretch_at};
 use scan::scan_text;
 use tree::{Form, check_tree};
@@ -96,8 +96,8 @@ fn unlisted(text: &[u8], place: usize) -> Pass
     ensures { result ≡ unlisted_at (scanned text.now) place }
 {
     match scan_text(text) {
-        Found::At(p) => Pass::Breaks(p),
-        Found::Nothing => Pass::Unlisted(place),
+        Some(p) => Pass::Breaks(p),
+        None => Pass::Unlisted(place),
     }
 }
 
@@ -135,10 +135,10 @@ fn read_text(
         let stretch = stretch_at(text, i, seed);
         let end = stretch.end;
         match find_name(names, starts, heads, next, n, stretch.bucket, &text[i..end]) {
-            Found::Nothing => {
+            None => {
                 return unlisted(text, i);
             }
-            Found::At(k) => {
+            Some(k) => {
                 put_symbol(&mut *entries, at, (k + 1) as u8);
                 match after_name(text, end, depth) {
                     After::Breaks(place) => {
@@ -183,13 +183,13 @@ fn put_tree(entries: &[u8; 4096], needed: usize, tree: &mut [u16]) -> Answer
     ensures { Gave (fits_in 4096 needed (length tree.old)) (take needed entries.now) tree.old tree.new result }
 {
     if 4096 < needed {
-        return refused_answer(Kind::TermTreeTooLong, 0);
+        return Err(refuse(Kind::TermTreeTooLong, 0));
     }
     if tree.len() < needed {
-        return refused_answer(Kind::ShortTermTree, needed as u64);
+        return Err(refuse(Kind::ShortTermTree, needed as u64));
     }
     put_front(entries, needed, tree);
-    Answer::Result(needed as u64)
+    Ok(needed as u64)
 }
 
 // Reads a text by a names list that keeps to the rules.
@@ -208,12 +208,12 @@ fn read_named(
     ensures { ReadBy (read_named 4096) names.now text.now tree.old tree.new result }
 {
     if 65536 < text.len() {
-        return refused_answer(Kind::TextTooLong, 0);
+        return Err(refuse(Kind::TextTooLong, 0));
     }
     let mut entries = [0u8; 4096];
     match read_text(names, seed, starts, heads, next, n, text, &mut entries) {
-        Pass::Breaks(place) => refused_answer(Kind::NotATerm, place as u64),
-        Pass::Unlisted(place) => refused_answer(Kind::UnlistedName, place as u64),
+        Pass::Breaks(place) => Err(refuse(Kind::NotATerm, place as u64)),
+        Pass::Unlisted(place) => Err(refuse(Kind::UnlistedName, place as u64)),
         Pass::Taken(needed) => put_tree(&entries, needed, tree),
     }
 }
@@ -227,23 +227,23 @@ pub fn read_term(names: &[u8], text: &[u8], tree: &mut [u16]) -> Answer
     let mut next = [0u16; 256];
     let seed = list_seed(names);
     match check_names(names, seed, &mut starts, &mut heads, &mut next) {
-        NamesCheck::Faulty(line) => refused_answer(Kind::FaultyNames, line as u64),
+        NamesCheck::Faulty(line) => Err(refuse(Kind::FaultyNames, line as u64)),
         NamesCheck::Sound(n) => read_named(names, seed, &starts, &heads, &next, n, text, tree),
     }
 }
 
 // The first entry that is a symbol above the count of names.
-fn first_unnamed(tree: &[u16], n: usize) -> Found
+fn first_unnamed(tree: &[u16], n: usize) -> Option<usize>
     ensures { result ≡ first_with (λ i. ltb n (get_or tree.now i 0)) (length tree.now) }
 {
     let mut i: usize = 0;
     while i < tree.len() {
         if n < wide(tree[i]) {
-            return Found::At(i);
+            return Some(i);
         }
         i += 1;
     }
-    Found::Nothing
+    None
 }
 
 // The separator before a name that follows this entry: `,` after a bar, `(` after a symbol.
@@ -434,10 +434,10 @@ fn write_fitting(
 {
     let needed = text_length(names, starts, n, tree);
     if text.len() < needed {
-        return refused_answer(Kind::ShortTextList, needed as u64);
+        return Err(refuse(Kind::ShortTextList, needed as u64));
     }
     put_text(names, starts, n, tree, text);
-    Answer::Result(needed as u64)
+    Ok(needed as u64)
 }
 
 // Writes the term of a list that is a tree.
@@ -454,8 +454,8 @@ fn write_formed(
     ensures { WriteBy write_formed names.now tree.now text.old text.new result }
 {
     match first_unnamed(tree, n) {
-        Found::At(place) => refused_answer(Kind::UnnamedSymbol, place as u64),
-        Found::Nothing => write_fitting(names, starts, n, tree, text),
+        Some(place) => Err(refuse(Kind::UnnamedSymbol, place as u64)),
+        None => write_fitting(names, starts, n, tree, text),
     }
 }
 
@@ -466,7 +466,7 @@ fn write_named(names: &[u8], starts: &[u16; 256], n: usize, tree: &[u16], text: 
     ensures { WriteBy write_named names.now tree.now text.old text.new result }
 {
     match check_tree(tree) {
-        Form::Refuses(r) => Answer::Refused(r),
+        Form::Refuses(r) => Err(r),
         Form::Tree => write_formed(names, starts, n, tree, text),
     }
 }
@@ -480,7 +480,7 @@ pub fn write_term(names: &[u8], tree: &[u16], text: &mut [u8]) -> Answer
     let mut next = [0u16; 256];
     let seed = list_seed(names);
     match check_names(names, seed, &mut starts, &mut heads, &mut next) {
-        NamesCheck::Faulty(line) => refused_answer(Kind::FaultyNames, line as u64),
+        NamesCheck::Faulty(line) => Err(refuse(Kind::FaultyNames, line as u64)),
         NamesCheck::Sound(n) => write_named(names, &starts, n, tree, text),
     }
 }

@@ -16,11 +16,11 @@ fn give(answer: Answer, value: &mut u64) -> u32
     ensures { Returned (outcome answer) result value.new }
 {
     match answer {
-        Answer::Result(n) => {
+        Ok(n) => {
             *value = n;
             0
         }
-        Answer::Refused(r) => {
+        Err(r) => {
             let kind = r.kind;
             *value = r.place;
             model::kind_number(kind)

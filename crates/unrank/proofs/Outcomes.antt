@@ -8,7 +8,8 @@ use borrow.Author.Tests.{lt-ltb, le-ltb}
 use Rattle.model.specs.Answers.{Outcome, result, refused, outcome, lent_after}
 use Rattle.model.specs.Table.{Row}
 use Rattle.model.specs.Write.{tree_fits}
-use Rattle.model.specs.declared.Answer.{Answer}
+use Rattle.std.specs.Prelude.{Result}
+use Rattle.model.specs.declared.Refusal.{Refusal}
 use Rattle.unrank.specs.declared.Spot.{Spot}
 use Rattle.unrank.specs.Trees.{value_entries, Wrote, spot_of}
 use Rattle.unrank.specs.Written.{number_entries, WroteNumber, write_below, WroteBelow}
@@ -26,14 +27,14 @@ module _ (rows : List Row) (accepting counts : List ℕ) (number : ℕ) (s : Spo
   needed_is : (n : ℕ) → n ≡ length (value_entries rows counts s.state s.value) → n ≡ length (number_entries rows accepting counts number)
   needed_is n o = o ∙ ap length spot_entries
 
-  pub number_short : (n : ℕ) (old : List ℕ) (r : Answer) → n ≡ length (value_entries rows counts s.state s.value) → length old < n → outcome r ≡ refused 16 n
+  pub number_short : (n : ℕ) (old : List ℕ) (r : Result ℕ Refusal) → n ≡ length (value_entries rows counts s.state s.value) → length old < n → outcome r ≡ refused 16 n
       → WroteNumber rows accepting counts number old old r
   number_short n old r o l a =
       let z = needed_is n o in
       let f : gives (number_entries rows accepting counts number) old ≡ refused 16 (length (number_entries rows accepting counts number)) = rw (lt-ltb (length old) (length (number_entries rows accepting counts number)) (omega arith)) in
       record { answer = a ∙ ap (λ (k : ℕ). refused 16 k) z ∙ sym f; list = sym (ap (λ (o : Outcome). lent_after o (number_entries rows accepting counts number) old) f) }
 
-  pub number_fits : (n m : ℕ) (old new : List ℕ) (r : Answer) → n ≡ length (value_entries rows counts s.state s.value) → n ≤ length old → outcome r ≡ result n
+  pub number_fits : (n m : ℕ) (old new : List ℕ) (r : Result ℕ Refusal) → n ≡ length (value_entries rows counts s.state s.value) → n ≤ length old → outcome r ≡ result n
       → Wrote rows counts s.state s.value old new m → WroteNumber rows accepting counts number old new r
   number_fits n m old new r o l a w =
       let z = needed_is n o in
@@ -50,12 +51,12 @@ module _ (rows : List Row) (accepting counts : List ℕ) (number : ℕ) (s : Spo
 -- ---- any number
 
 -- the answer decides, and the list then holds what it says
-told_so : (rows : List Row) (accepting counts : List ℕ) (total number : ℕ) (old new : List ℕ) (r : Answer) (o : Outcome) → outcome r ≡ o
+told_so : (rows : List Row) (accepting counts : List ℕ) (total number : ℕ) (old new : List ℕ) (r : Result ℕ Refusal) (o : Outcome) → outcome r ≡ o
     → write_below total number (gives (number_entries rows accepting counts number) old) ≡ o → new ≡ lent_after o (number_entries rows accepting counts number) old
     → WroteBelow rows accepting counts total number old new r
 told_so rows accepting counts total number old new r o a e l = record { answer = a ∙ sym e; list = l ∙ ap (λ (o : Outcome). lent_after o (number_entries rows accepting counts number) old) (sym e) }
 
-module _ (rows : List Row) (accepting counts : List ℕ) (total number : ℕ) (old : List ℕ) (r : Answer) where
+module _ (rows : List Row) (accepting counts : List ℕ) (total number : ℕ) (old : List ℕ) (r : Result ℕ Refusal) where
   pub write_above : total ≤ number → outcome r ≡ refused 15 0 → WroteBelow rows accepting counts total number old old r
   write_above l a = told_so rows accepting counts total number old old r (refused 15 0) a (rw (le-ltb number total l)) refl
 

@@ -8,7 +8,7 @@ ghost use Rattle.unrank.specs.Trees.{Opening, opened_at, Enters, Shared, child_o
 ghost use Rattle.unrank.specs.Written.{WroteNumber, WroteBelow};
 
 use chains::wide;
-use model::{Answer, Kind, refused_answer};
+use model::{Answer, Kind, refuse};
 
 // The row in which a value falls: its word, what it counts, and the value less what the state's earlier rows count.
 #[derive(Clone, Copy)]
@@ -198,10 +198,10 @@ fn write_number(
     let value = spot.value;
     let needed = tree_length(pool, words, first, counts, sums, q, value);
     if tree.len() < needed {
-        return refused_answer(Kind::ShortTreeList, needed as u64);
+        return Err(refuse(Kind::ShortTreeList, needed as u64));
     }
     write_tree(pool, words, first, counts, sums, q, value, tree);
-    Answer::Result(needed as u64)
+    Ok(needed as u64)
 }
 
 // Writes the tree of a number of a table that passes, by what its check leaves.
@@ -221,7 +221,7 @@ pub fn write_prepared(
         tree.old tree.new result }
 {
     if total <= number {
-        return refused_answer(Kind::NumberNotBelowTotal, 0);
+        return Err(refuse(Kind::NumberNotBelowTotal, 0));
     }
     write_number(pool, accepting, words, first, counts, sums, number, tree)
 }

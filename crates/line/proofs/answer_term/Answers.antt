@@ -6,14 +6,14 @@ use Rattle.line.proofs.answer_term.Goals as goal
 
 pub slice_bounds-answer_tree-end : goal.slice_bounds-answer_tree-end
 slice_bounds-answer_tree-end c =
-    omega (arith, (read_fits_lem c.read_term.ensures c.requires.tree_len _ c.in-Result.is), c.read_term.auto.tree, c.requires.tree_len)
+    omega (arith, (read_fits_lem c.read_term.ensures c.requires.tree_len _ c.in-Ok.is), c.read_term.auto.tree, c.requires.tree_len)
 
-pub slice_bounds-answer_tree-end-in-Result : goal.slice_bounds-answer_tree-end-in-Result
-slice_bounds-answer_tree-end-in-Result c =
-    sym (length-take-le _ _ (omega (arith, (read_fits_lem c.read_term.ensures c.requires.tree_len _ c.in-Result.is), c.read_term.auto.tree, c.requires.tree_len)))
+pub slice_bounds-answer_tree-end-in-Ok : goal.slice_bounds-answer_tree-end-in-Ok
+slice_bounds-answer_tree-end-in-Ok c =
+    sym (length-take-le _ _ (omega (arith, (read_fits_lem c.read_term.ensures c.requires.tree_len _ c.in-Ok.is), c.read_term.auto.tree, c.requires.tree_len)))
 
-pub returns-in-Result : goal.returns-in-Result
-returns-in-Result c = number_shown c.read_term.ensures c.requires.tree_len _ _ _ _ _ _ c.in-Result.is c.answer_tree.ensures
+pub returns-in-Ok : goal.returns-in-Ok
+returns-in-Ok c = number_shown c.read_term.ensures c.requires.tree_len _ _ _ _ _ _ c.in-Ok.is c.answer_tree.ensures
 
-pub returns-in-Refused : goal.returns-in-Refused
-returns-in-Refused c = number_turned c.read_term.ensures c.requires.tree_len _ _ _ _ _ _ c.in-Refused.is c.put_refusal.ensures
+pub returns-in-Err : goal.returns-in-Err
+returns-in-Err c = number_turned c.read_term.ensures c.requires.tree_len _ _ _ _ _ _ c.in-Err.is c.put_refusal.ensures

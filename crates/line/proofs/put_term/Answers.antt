@@ -4,13 +4,13 @@ use Rattle.line.proofs.Outcomes.{text_fits, term_told, line_end, result_shown, r
 use Rattle.line.proofs.put_term.Goals as goal
 
 pub bounds-out-n : goal.bounds-out-n
-bounds-out-n c = omega (arith, text_fits c.write_term.ensures (search rules) _ c.in-Result.is)
+bounds-out-n c = omega (arith, text_fits c.write_term.ensures (search rules) _ c.in-Ok.is)
 
 pub overflow_add-result : goal.overflow_add-result
-overflow_add-result c = omega (arith, text_fits c.write_term.ensures (search rules) _ c.in-Result.is)
+overflow_add-result c = omega (arith, text_fits c.write_term.ensures (search rules) _ c.in-Ok.is)
 
-pub returns-in-Result : goal.returns-in-Result
-returns-in-Result c = result_shown (term_told c.write_term.ensures (search rules)) _ _ _ _ c.in-Result.is (line_end c.write_term.ensures (search rules) _ c.in-Result.is (search rules))
+pub returns-in-Ok : goal.returns-in-Ok
+returns-in-Ok c = result_shown (term_told c.write_term.ensures (search rules)) _ _ _ _ c.in-Ok.is (line_end c.write_term.ensures (search rules) _ c.in-Ok.is (search rules))
 
-pub returns-in-Refused : goal.returns-in-Refused
-returns-in-Refused c = refusal_shown (term_told c.write_term.ensures (search rules)) _ _ _ _ c.in-Refused.is c.put_refusal.ensures
+pub returns-in-Err : goal.returns-in-Err
+returns-in-Err c = refusal_shown (term_told c.write_term.ensures (search rules)) _ _ _ _ c.in-Err.is c.put_refusal.ensures

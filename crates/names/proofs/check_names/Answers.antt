@@ -13,35 +13,35 @@ pub returns-in_default : goal.returns-in_default
 returns-in_default c = faulty_line _ (no_name c.loop-at.invariant c.loop-at-test.true (sym c.name_end.ensures ∙ c.in_default.is))
 
 pub slice_bounds-find_name-count : goal.slice_bounds-find_name-count
-slice_bounds-find_name-count c = omega (arith, (fits c.loop-at.invariant c.loop-at-test.true _ (sym c.name_end.ensures ∙ c.in-At.is)).1)
+slice_bounds-find_name-count c = omega (arith, (fits c.loop-at.invariant c.loop-at-test.true _ (sym c.name_end.ensures ∙ c.in-Some.is)).1)
 
 pub slice_bounds-find_name-start : goal.slice_bounds-find_name-start
-slice_bounds-find_name-start c = omega (arith, fits c.loop-at.invariant c.loop-at-test.true _ (sym c.name_end.ensures ∙ c.in-At.is))
+slice_bounds-find_name-start c = omega (arith, fits c.loop-at.invariant c.loop-at-test.true _ (sym c.name_end.ensures ∙ c.in-Some.is))
 
 pub slice_bounds-find_name-end : goal.slice_bounds-find_name-end
-slice_bounds-find_name-end c = omega (arith, fits c.loop-at.invariant c.loop-at-test.true _ (sym c.name_end.ensures ∙ c.in-At.is))
+slice_bounds-find_name-end c = omega (arith, fits c.loop-at.invariant c.loop-at-test.true _ (sym c.name_end.ensures ∙ c.in-Some.is))
 
 pub find_name-requires : goal.find_name-requires
 find_name-requires c =
-    let hashed : c.stretch_at-stretch.result.bucket ≡ hash_of c.args.seed (take (c.in-At.end - c.loop-at.at) (drop c.loop-at.at c.args.names.now)) =
-    c.stretch_at-stretch.ensures.hashed ∙ ap (hash_of c.args.seed) (stretch_part c.loop-at.invariant c.loop-at-test.true _ (sym c.name_end.ensures ∙ c.in-At.is)) in
-    record { sought = record { seed = c.args.seed; indexed = c.loop-at.invariant.known; hashed = hashed; below = c.stretch_at-stretch.ensures.below }; name_value = part_inner c.loop-at.invariant c.loop-at-test.true _ (sym c.name_end.ensures ∙ c.in-At.is) }
+    let hashed : c.stretch_at-stretch.result.bucket ≡ hash_of c.args.seed (take (c.in-Some.end - c.loop-at.at) (drop c.loop-at.at c.args.names.now)) =
+    c.stretch_at-stretch.ensures.hashed ∙ ap (hash_of c.args.seed) (stretch_part c.loop-at.invariant c.loop-at-test.true _ (sym c.name_end.ensures ∙ c.in-Some.is)) in
+    record { sought = record { seed = c.args.seed; indexed = c.loop-at.invariant.known; hashed = hashed; below = c.stretch_at-stretch.ensures.below }; name_value = part_inner c.loop-at.invariant c.loop-at-test.true _ (sym c.name_end.ensures ∙ c.in-Some.is) }
 
-pub returns-in-At-find_name : goal.returns-in-At-find_name
-returns-in-At-find_name c =
-    faulty_line _ (again c.loop-at.invariant c.loop-at-test.true _ (sym c.name_end.ensures ∙ c.in-At.is) _ (sym c.find_name.ensures ∙ c.in-At-find_name.is))
+pub returns-in-Some-find_name : goal.returns-in-Some-find_name
+returns-in-Some-find_name c =
+    faulty_line _ (again c.loop-at.invariant c.loop-at-test.true _ (sym c.name_end.ensures ∙ c.in-Some.is) _ (sym c.find_name.ensures ∙ c.in-Some-find_name.is))
 
 pub overflow_cast-starts : goal.overflow_cast-starts
-overflow_cast-starts c = omega (arith, short_end c.loop-at.invariant c.loop-at-test.true _ (sym c.name_end.ensures ∙ c.in-At.is), c.if-n-ge255.false)
+overflow_cast-starts c = omega (arith, short_end c.loop-at.invariant c.loop-at-test.true _ (sym c.name_end.ensures ∙ c.in-Some.is), c.if-n-ge255.false)
 
 pub loop-at-smaller : goal.loop-at-smaller
-loop-at-smaller c = omega (arith, fits c.loop-at.invariant c.loop-at-test.true _ (sym c.name_end.ensures ∙ c.in-At.is))
+loop-at-smaller c = omega (arith, fits c.loop-at.invariant c.loop-at-test.true _ (sym c.name_end.ensures ∙ c.in-Some.is))
 
 pub loop-at-preserved : goal.loop-at-preserved
 loop-at-preserved c =
-    let hashed : c.stretch_at-stretch.result.bucket ≡ hash_of c.args.seed (take (c.in-At.end - c.loop-at.at) (drop c.loop-at.at c.args.names.now)) =
-    c.stretch_at-stretch.ensures.hashed ∙ ap (hash_of c.args.seed) (stretch_part c.loop-at.invariant c.loop-at-test.true _ (sym c.name_end.ensures ∙ c.in-At.is)) in
-    entered c.loop-at.invariant c.loop-at-test.true _ (sym c.name_end.ensures ∙ c.in-At.is) c.if-n-ge255.false _ hashed c.stretch_at-stretch.ensures.below (sym c.find_name.ensures ∙ c.in_default-find_name.is)
+    let hashed : c.stretch_at-stretch.result.bucket ≡ hash_of c.args.seed (take (c.in-Some.end - c.loop-at.at) (drop c.loop-at.at c.args.names.now)) =
+    c.stretch_at-stretch.ensures.hashed ∙ ap (hash_of c.args.seed) (stretch_part c.loop-at.invariant c.loop-at-test.true _ (sym c.name_end.ensures ∙ c.in-Some.is)) in
+    entered c.loop-at.invariant c.loop-at-test.true _ (sym c.name_end.ensures ∙ c.in-Some.is) c.if-n-ge255.false _ hashed c.stretch_at-stretch.ensures.below (sym c.find_name.ensures ∙ c.in_default-find_name.is)
 
 pub returns-then-n-eq0 : goal.returns-then-n-eq0
 returns-then-n-eq0 c = faulty_line _ (no_lines_at_all c.loop-at.invariant c.loop-at-test.false c.if-n-eq0.true)

@@ -19,4 +19,4 @@ pub loop-i-preserved : goal.loop-i-preserved
 loop-i-preserved c = sum_goes c.loop-i.invariant c.loop-i-test.true _ c.wide.ensures c.if-accepting-i.false
 
 pub returns : goal.returns
-returns c = c.refused_answer.ensures ∙ not_listed c.loop-i.invariant c.loop-i-test.false _ _
+returns c = c.refuse.ensures ∙ not_listed c.loop-i.invariant c.loop-i-test.false _ _

@@ -61,7 +61,7 @@ loop-i-preserved c =
 
 pub returns-in-Stuck : goal.returns-in-Stuck
 returns-in-Stuck c =
-    c.refused_answer.ensures ∙ node_sticks c.loop-i.invariant c.loop-i-test.true _ (sym c.entry.ensures ∙ c.in-Closes.is) _ c.wide-b.ensures (sym c.close.ensures ∙ c.in-Stuck.is)
+    c.refuse.ensures ∙ node_sticks c.loop-i.invariant c.loop-i-test.true _ (sym c.entry.ensures ∙ c.in-Closes.is) _ c.wide-b.ensures (sym c.close.ensures ∙ c.in-Stuck.is)
 
 pub returns-in-Refuses : goal.returns-in-Refuses
 returns-in-Refuses c = not_refused c.loop-i.invariant c.loop-i-test.true _ (sym c.entry.ensures ∙ c.in-Refuses.is) c.requires.well_formed.0

@@ -16,7 +16,7 @@ slice_bounds-check_states-end c =
 pub check_states-requires : goal.check_states-requires
 check_states-requires c =
     states_ready _ _ _ c.if-states-gt256.false (c.check_rows.ensures.passed _ _ c.in-Passed.is)
-    (c.faulty_entry.ensures.none c.in-Nothing.is) c.requires (taken_room _ (c.check_rows.ensures.passed _ _ c.in-Passed.is) c.args.words.now c.words-1.given)
+    (c.faulty_entry.ensures.none c.in-None.is) c.requires (taken_room _ (c.check_rows.ensures.passed _ _ c.in-Passed.is) c.args.words.now c.words-1.given)
 
 pub returns-in-Stopped : goal.returns-in-Stopped
 returns-in-Stopped c =
@@ -24,18 +24,18 @@ returns-in-Stopped c =
     (c.refuse-in-Stopped.ensures
     ∙ row_refused _ _ _ c.if-states-gt256.false _ _ (c.check_rows.ensures.stopped _ _ c.in-Stopped.is) (kind_positive c.in-Stopped.kind))
 
-pub returns-in-At : goal.returns-in-At
-returns-in-At c =
+pub returns-in-Some : goal.returns-in-Some
+returns-in-Some c =
     refused_answer _
-    (c.refuse-in-At.ensures
-    ∙ entry_refused _ _ _ c.if-states-gt256.false (taken_fine _ (c.check_rows.ensures.passed _ _ c.in-Passed.is)) _ (c.faulty_entry.ensures.some _ c.in-At.is))
+    (c.refuse-in-Some.ensures
+    ∙ entry_refused _ _ _ c.if-states-gt256.false (taken_fine _ (c.check_rows.ensures.passed _ _ c.in-Passed.is)) _ (c.faulty_entry.ensures.some _ c.in-Some.is))
 
-pub returns-in-Refused : goal.returns-in-Refused
-returns-in-Refused c =
+pub returns-in-Err : goal.returns-in-Err
+returns-in-Err c =
     total_refused _ _ _ c.if-states-gt256.false (c.check_rows.ensures.passed _ _ c.in-Passed.is)
-    (c.faulty_entry.ensures.none c.in-Nothing.is) c.check_states.ensures _ c.in-Refused.is
+    (c.faulty_entry.ensures.none c.in-None.is) c.check_states.ensures _ c.in-Err.is
 
-pub returns-in-Result : goal.returns-in-Result
-returns-in-Result c =
+pub returns-in-Ok : goal.returns-in-Ok
+returns-in-Ok c =
     total_passed _ _ _ c.if-states-gt256.false (c.check_rows.ensures.passed _ _ c.in-Passed.is)
-    (c.faulty_entry.ensures.none c.in-Nothing.is) c.check_states.ensures _ c.in-Result.is _ refl
+    (c.faulty_entry.ensures.none c.in-None.is) c.check_states.ensures _ c.in-Ok.is _ refl
