@@ -12,6 +12,7 @@ use lib.ListN.{length, get_or}
 use lib.Dec.{ltb}
 use Rattle.model.specs.declared.Kind.{Kind}
 use Rattle.model.specs.declared.Refusal.{Refusal}
+use Rattle.model.specs.Answers.{refused, kind_number, refused_by}
 use Rattle.model.specs.Table.{Row, Table}
 use Rattle.model.specs.Count.{count}
 use Rattle.model.specs.Value.{earlier_rows}
@@ -131,11 +132,15 @@ module _ {states : ℕ} {pool accepting words first cs ms used₀ ss : List ℕ}
       found = f.found T refl measures u.each
 
       -- one is beyond a limit
-      pub settled_fault : (q : ℕ) (k : Kind) → r ≡ Some (q, k) → Settled true states pool accepting words cs cs ss ss (Err (record { place = q; kind = k }))
-      settled_fault q k e = record {
+      pub settled_fault : (q : ℕ) (k : Kind) → r ≡ Some (q, k) → (f' : Refusal) → refused_by f' ≡ refused (kind_number k) q → Settled true states pool accepting words cs cs ss ss (Err f')
+      settled_fault q k e f' i = record {
         cs_long = refl;
         sums_long = refl;
-        fault = λ f' h. let y : record { place = q; kind = k } ≡ f' = cc in rw (← y) (found.fault q k e);
+        fault = λ f'' h.
+            let y : f'' ≡ f' = cc in
+            let n : kind_number f'.kind ≡ kind_number k = cc in
+            let p : f'.place ≡ q = cc in
+            rw (y, n, p) (found.fault q k e);
         fine = λ h. let z : ◌≡◌ {A = ℕ} 0 1 = cc in absurd (omega arith);
         listed = λ h. let z : ◌≡◌ {A = ℕ} 0 1 = cc in absurd (omega arith);
         left = λ h. let z : ◌≡◌ {A = ℕ} 0 1 = cc in absurd (omega arith);

@@ -10,7 +10,7 @@ ghost use Rattle.used.specs.Marked.{Placed, NoneEmpty, ArgsSome, MarkedToo, RowP
 ghost use Rattle.used.specs.Limits.{BeyondFrom, FaultFrom, FaultReady, FirstUsed};
 ghost use Rattle.used.specs.Settled.{RowsChained, RowsCleared, ClearReady, Cleared, SettleReady, Settled};
 
-use model::{Kind, Refusal};
+use model::{Kind, Refusal, refuse};
 
 // The most entries that a state's longest tree may have.
 const LENGTH_LIMIT: u64 = 4096;
@@ -243,10 +243,7 @@ fn settle_used(
 {
     find_used(states, pool, accepting, words, first, counts, used);
     if let Some((q, kind)) = first_fault(states, marks, used, from) {
-        return Err(Refusal {
-            place: q as u64,
-            kind,
-        });
+        return Err(refuse(kind, q as u64));
     }
     clear_unused(states, words, first, used, counts, sums);
     Ok(())
