@@ -14,7 +14,6 @@ use Rattle.model.specs.Names.{how_many_names, names_then}
 use Rattle.model.specs.Term.{Scan, passes, breaks_at}
 use Rattle.model.specs.Tree.{WellFormed}
 use Rattle.model.specs.TermOperations.{entries_of, bytes_of, fits_in, read_fits, read_named, symbol_ground, write_fits, write_formed, write_named, read_term_outcome, write_term_outcome, read_term_list, write_term_list}
-use Rattle.std.specs.Prelude.{Result, Ok, Err}
 use Rattle.model.specs.declared.Refusal.{Refusal}
 use Rattle.model.proofs.Choice.{no_fault, fault_refused, is_false}
 use Rattle.tree.specs.Reading.{Decides}
