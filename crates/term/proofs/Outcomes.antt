@@ -8,7 +8,7 @@ use native.Mathlib.Omega.{arith}
 use lib.ListN.{length, get_or, take, replicate, length-replicate, get_or-replicate}
 use lib.Seq.{get_or-take, ext_get_or, length-take-le}
 use lib.Dec.{ltb}
-use borrow.Author.Tests.{lt-ltb, le-ltb, ltb-false}
+use borrow.Author.Tests.{lt-ltb, le-ltb, ltb-true, ltb-false}
 use Rattle.model.specs.Answers.{Outcome, result, refused, refused_by, outcome, lent_after}
 use Rattle.model.specs.Names.{how_many_names, names_then}
 use Rattle.model.specs.Term.{Scan, passes, breaks_at}
@@ -16,14 +16,16 @@ use Rattle.model.specs.Tree.{WellFormed}
 use Rattle.model.specs.TermOperations.{entries_of, bytes_of, fits_in, read_fits, read_named, symbol_ground, write_fits, write_formed, write_named, read_term_outcome, write_term_outcome, read_term_list, write_term_list}
 use Rattle.std.specs.Prelude.{Result, Ok, Err}
 use Rattle.model.specs.declared.Refusal.{Refusal}
-use Rattle.model.proofs.Choice.{no_fault, fault_refused, is_false}
+use Rattle.std.specs.List.{position, position_or_len}
+use Rattle.std.proofs.lemmas.List.Sums.{passes_at_first, fails_before_first}
+use Rattle.model.proofs.Choice.{no_fault, fault_refused, is_false, not_both}
 use Rattle.tree.specs.Reading.{Decides}
 use Rattle.tree.proofs.Laws.{list_refused, list_taken}
 use Rattle.tree.specs.declared.Form.{Form}
 use Rattle.tree.specs.declared.Form.TheVariants.{Refuses, Tree as FormTree}
 use Rattle.chains.specs.First.{first_with}
 use Rattle.std.specs.Prelude.{Some, None}
-use Rattle.chains.proofs.First.{first_is, first_none, apart}
+use Rattle.chains.proofs.First.{first_is, first_at, none_first, first_none, apart}
 use Rattle.scan.specs.TextState.{place_of}
 use Rattle.term.specs.Emit.{entries_text}
 use Rattle.term.specs.Pass.{unlisted_at, Cleared, pass_then, Passed}
@@ -134,6 +136,18 @@ module _ (names tree : List ℕ) (room needed : ℕ) (w : WellFormed tree) (e : 
 
 pub text_front : (names tree old new : List ℕ) → WellFormed tree → Front old new (entries_text names 0 tree) → Front old new (bytes_of names tree)
 text_front names tree old new w f = rw (sym (entries_text_lem names tree w)) f
+
+-- the first place that passes a test
+pub position_first : (q : ℕ → Bool) (xs : List ℕ) → position q xs ≡ first_with (λ i. q (get_or xs i 0)) (length xs)
+position_first q xs = go (ltb (position_or_len q xs) (length xs)) refl
+  where
+    go : (t : Bool) → ltb (position_or_len q xs) (length xs) ≡ t → position q xs ≡ first_with (λ i. q (get_or xs i 0)) (length xs)
+    go true e =
+        let l = ltb-true (position_or_len q xs) (length xs) e in
+        rw e (sym (first_at (λ i. q (get_or xs i 0)) (length xs) (position_or_len q xs) l (passes_at_first q xs 0 l) (λ k m t. not_both (q (get_or xs k 0)) t (fails_before_first q xs k 0 m))))
+    go false e =
+        let l = ltb-false (position_or_len q xs) (length xs) e in
+        rw e (sym (none_first (λ i. q (get_or xs i 0)) (length xs) (λ k m t. not_both (q (get_or xs k 0)) t (fails_before_first q xs k 0 (omega arith)))))
 
 -- 23
 module _ (names tree : List ℕ) (n room : ℕ) (c : n ≡ how_many_names names) where

@@ -40,10 +40,7 @@ pub enum Pass {
 fn opens(text: &[u8], at: usize) -> bool
     ensures { result ≡ eqb (get_or text.now at 0) 40 }
 {
-    if at < text.len() {
-        return text[at] == b'(';
-    }
-    false
+    at < text.len() && text[at] == b'('
 }
 
 // How many `)` stand at a place, no more than brackets are open.
@@ -51,17 +48,12 @@ fn closes(text: &[u8], at: usize, depth: usize) -> usize
     requires { at ≤ length text.now }
     ensures { Closing text.now at depth result }
 {
-    let mut c: usize = 0;
-    while c < depth {
-        if text.len() <= at + c {
+    for c in 0..depth {
+        if text.len() <= at + c || text[at + c] != b')' {
             return c;
         }
-        if text[at + c] != b')' {
-            return c;
-        }
-        c += 1;
     }
-    c
+    depth
 }
 
 // What follows the name that ends at a place.
@@ -162,10 +154,8 @@ fn put_front(entries: &[u8; 4096], count: usize, tree: &mut [u16])
     requires { (length entries.now ≡ 4096) × (count ≤ 4096) × (count ≤ length tree.old) }
     ensures { Front tree.old tree.new (take count entries.now) }
 {
-    let mut i: usize = 0;
-    while i < count {
-        tree[i] = u16::from(entries[i]);
-        i += 1;
+    for (i, e) in entries[..count].iter().enumerate() {
+        tree[i] = u16::from(*e);
     }
 }
 
@@ -226,46 +216,28 @@ pub fn read_term(names: &[u8], text: &[u8], tree: &mut [u16]) -> Answer
 fn first_unnamed(tree: &[u16], n: usize) -> Option<usize>
     ensures { result ≡ first_with (λ i. ltb n (get_or tree.now i 0)) (length tree.now) }
 {
-    let mut i: usize = 0;
-    while i < tree.len() {
-        if n < usize::from(tree[i]) {
-            return Some(i);
-        }
-        i += 1;
-    }
-    None
+    tree.iter().position(|e| n < usize::from(*e))
 }
 
 // The separator before a name that follows this entry: `,` after a bar, `(` after a symbol.
 fn mark_after(e: u16) -> u8
     ensures { result ≡ mark_after e }
 {
-    if e == 0 {
-        return b',';
-    }
-    b'('
+    if e == 0 { b',' } else { b'(' }
 }
 
 // The line of a symbol's name, the first being line 0; 0 for a bar too.
 fn line_before(e: u16) -> usize
     ensures { result ≡ e - 1 }
 {
-    if e == 0 {
-        return 0;
-    }
-    usize::from(e) - 1
+    usize::from(e).saturating_sub(1)
 }
 
 // 1 for a bar after a bar: it gives `)`.
 fn closing_length(before: u16, e: u16) -> usize
     ensures { result ≡ closing (mark_after before) e }
 {
-    if e == 0 {
-        if before == 0 {
-            return 1;
-        }
-    }
-    0
+    if e == 0 && before == 0 { 1 } else { 0 }
 }
 
 // How many bytes the first entry gives.
@@ -296,14 +268,12 @@ fn text_length(names: &[u8], starts: &[u16; 256], n: usize, tree: &[u16]) -> usi
     requires entries_named { EntriesNamed n tree.now }
     ensures { result ≡ length (entries_text names.now 0 tree.now) }
 {
-    if tree.len() == 0 {
+    if tree.is_empty() {
         return 0;
     }
     let mut sum = first_length(names, starts, n, tree[0]);
-    let mut i: usize = 1;
-    while i < tree.len() {
+    for i in 1..tree.len() {
         sum += entry_length(names, starts, n, tree[i - 1], tree[i]);
-        i += 1;
     }
     sum
 }
@@ -313,10 +283,8 @@ fn put_few(text: &mut [u8], at: usize, bytes: &[u8])
     requires { at + length bytes.now ≤ length text.old }
     ensures { Copied (length bytes.now) text.old text.new at bytes.now }
 {
-    let mut i: usize = 0;
-    while i < bytes.len() {
-        text[at + i] = bytes[i];
-        i += 1;
+    for (i, b) in bytes.iter().enumerate() {
+        text[at + i] = *b;
     }
 }
 
@@ -336,10 +304,8 @@ fn put_long(text: &mut [u8], at: usize, bytes: &[u8])
     ensures { Copied (length bytes.now) text.old text.new at bytes.now }
 {
     let last = bytes.len() - 8;
-    let mut i: usize = 0;
-    while i < last {
-        put_word::<8>(&mut *text, at + i, word_at::<8>(bytes, i));
-        i += 8;
+    for k in 0..last.div_ceil(8) {
+        put_word::<8>(&mut *text, at + 8 * k, word_at::<8>(bytes, 8 * k));
     }
     put_word::<8>(text, at + last, word_at::<8>(bytes, last));
 }
@@ -352,13 +318,11 @@ pub fn put_bytes(text: &mut [u8], at: usize, bytes: &[u8]) -> usize
     let after = at + bytes.len();
     if 8 <= bytes.len() {
         put_long(text, at, bytes);
-        return after;
-    }
-    if 4 <= bytes.len() {
+    } else if 4 <= bytes.len() {
         put_fours(text, at, bytes);
-        return after;
+    } else {
+        put_few(text, at, bytes);
     }
-    put_few(text, at, bytes);
     after
 }
 
@@ -399,14 +363,11 @@ fn put_text(names: &[u8], starts: &[u16; 256], n: usize, tree: &[u16], text: &mu
     requires tree_in_bounds { length (entries_text names.now 0 tree.now) ≤ length text.old }
     ensures { Front text.old text.new (entries_text names.now 0 tree.now) }
 {
-    let mut at: usize = 0;
-    let mut mark: u8 = 0;
-    let mut i: usize = 0;
-    while i < tree.len() {
-        let e = tree[i];
-        at = put_entry_text(names, starts, n, mark, e, &mut *text, at);
-        mark = mark_after(e);
-        i += 1;
+    let mut at = 0;
+    let mut mark = 0;
+    for e in tree {
+        at = put_entry_text(names, starts, n, mark, *e, &mut *text, at);
+        mark = mark_after(*e);
     }
 }
 
