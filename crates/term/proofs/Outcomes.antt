@@ -1,5 +1,5 @@
 -- What the parts of the two operations answer, put together. Assumes nothing.
-use Rattle.std.specs.Prelude.{if◌then◌else◌}
+use Rattle.std.specs.Prelude.{Result, Ok, Err, if◌then◌else◌, Some, None}
 use Prim.Native.Nat.{ℕ, ◌<◌, ◌≤◌}
 use mathlib.Core.Path.{◌≡◌, refl, sym, ap, ◌∙◌}
 use mathlib.Core.Bool.{Bool, true, false}
@@ -14,17 +14,13 @@ use Rattle.model.specs.Names.{how_many_names, names_then}
 use Rattle.model.specs.Term.{Scan, passes, breaks_at}
 use Rattle.model.specs.Tree.{WellFormed}
 use Rattle.model.specs.TermOperations.{entries_of, bytes_of, fits_in, read_fits, read_named, symbol_ground, write_fits, write_formed, write_named, read_term_outcome, write_term_outcome, read_term_list, write_term_list}
-use Rattle.std.specs.Prelude.{Result, Ok, Err}
 use Rattle.model.specs.declared.Refusal.{Refusal}
 use Rattle.std.specs.List.{position, position_or_len}
 use Rattle.std.proofs.lemmas.List.Sums.{passes_at_first, fails_before_first}
 use Rattle.model.proofs.Choice.{no_fault, fault_refused, is_false, not_both}
 use Rattle.tree.specs.Reading.{Decides}
 use Rattle.tree.proofs.Laws.{list_refused, list_taken}
-use Rattle.tree.specs.declared.Form.{Form}
-use Rattle.tree.specs.declared.Form.TheVariants.{Refuses, Tree as FormTree}
 use Rattle.chains.specs.First.{first_with}
-use Rattle.std.specs.Prelude.{Some, None}
 use Rattle.chains.proofs.First.{first_is, first_at, none_first, first_none, apart}
 use Rattle.scan.specs.TextState.{place_of}
 use Rattle.term.specs.Emit.{entries_text}
@@ -165,11 +161,11 @@ module _ (names tree : List ℕ) (n room : ℕ) (c : n ≡ how_many_names names)
   named_low f e = record { few = f; named = λ i l. ltb-false n (get_or tree i 0) (none_unnamed e i l) }
 
 -- 12 and 13
-module _ {tree : List ℕ} {f : Form} (x : Decides tree f) (names : List ℕ) (room : ℕ) where
-  pub not_a_tree : (r : Refusal) → f ≡ Refuses r → refused_by r ≡ write_named names tree room
+module _ {tree : List ℕ} {f : Result (Unit {0}) Refusal} (x : Decides tree f) (names : List ℕ) (room : ℕ) where
+  pub not_a_tree : (r : Refusal) → f ≡ Err r → refused_by r ≡ write_named names tree room
   not_a_tree r e = list_refused x r e (write_formed names tree room)
 
-  pub a_tree : f ≡ FormTree → write_formed names tree room ≡ write_named names tree room
+  pub a_tree : f ≡ Ok tt → write_formed names tree room ≡ write_named names tree room
   a_tree e = list_taken x e (write_formed names tree room)
 
 pub write_by : (names tree : List ℕ) (room : ℕ) → names_then names (write_named names tree room) ≡ write_term_outcome names tree room

@@ -16,7 +16,7 @@ ghost use Rattle.term.specs.Pass.{Closing, Follows, unlisted_at, SymbolPut, Clea
 use model::{Answer, Kind, Refusal, refuse};
 use names::{check_names, find_name, list_seed, name_at, stretch_at};
 use scan::scan_text;
-use tree::{Form, check_tree};
+use tree::check_tree;
 use words::{put_word, word_at};
 
 // What follows a name: another name is due at a place, with so many brackets open, after so many bars; or the text ends, after so many bars.
@@ -395,10 +395,8 @@ fn write_named(names: &[u8], starts: &[u16; 256], n: usize, tree: &[u16], text: 
     requires n_value { n ≡ how_many_names names.now }
     ensures { WriteBy write_named names.now tree.now text.old text.new result }
 {
-    match check_tree(tree) {
-        Form::Refuses(r) => Err(r),
-        Form::Tree => write_formed(names, starts, n, tree, text),
-    }
+    check_tree(tree)?;
+    write_formed(names, starts, n, tree, text)
 }
 
 // Writes a tree as a term: gives the count of bytes, which then stand at the front of the list.
