@@ -7,14 +7,8 @@ use native.Mathlib.Numerals.{add-one}
 use lib.Dec.{ltb}
 use borrow.Author.Tests.{ltb-true, ltb-false}
 use Rattle.model.specs.Choice.{any_below}
-use Rattle.std.specs.Prelude.{Option}
-use Rattle.std.specs.Prelude.{Some, None}
+use Rattle.std.specs.Prelude.{Option, Some, None, is_some}
 use Rattle.chains.specs.First.{or_else, first_with}
-
--- something was found
-abbrev pub is_at : Option ℕ → Bool
-is_at (Some r) = true
-is_at None = false
 
 -- a number is not nothing
 pub apart : {A : Type 0} (r : ℕ) → Some r ≡ None → A
@@ -83,12 +77,12 @@ module _ (p : ℕ → Bool) where
   first_more n e f = rw (add-one n, e, f)
 
   -- some number below n has the property just where a first one is found
-  pub any_first : (n : ℕ) → any_below n p ≡ is_at (first_with p n)
+  pub any_first : (n : ℕ) → any_below n p ≡ is_some (first_with p n)
   unfolding any_below first_with or_else
   any_first zero = refl
   any_first (suc n) = rw (any_first n) (go (first_with p n) (p n))
     where
-      go : (o : Option ℕ) (t : Bool) → is_at o || t ≡ is_at (or_else o t n)
+      go : (o : Option ℕ) (t : Bool) → is_some o || t ≡ is_some (or_else o t n)
       go (Some r) t = refl
       go None true = refl
       go None false = refl

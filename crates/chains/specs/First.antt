@@ -1,7 +1,5 @@
 -- The first number with a property, and the first with a ground for a refusal. Assumes nothing: these are definitions.
-use Rattle.std.specs.Prelude.{ℕ, zero, suc, ◌<◌, ◌≡◌, Bool, true, false}
-use Rattle.std.specs.Prelude.{Option}
-use Rattle.std.specs.Prelude.{Some, None}
+use Rattle.std.specs.Prelude.{ℕ, zero, suc, ◌<◌, ◌≡◌, Bool, true, false, Option, Some, None}
 
 -- what was found before, or else k where the test holds
 unfoldable pub or_else : Option ℕ → Bool → ℕ → Option ℕ

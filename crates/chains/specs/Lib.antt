@@ -1,2 +1,3 @@
 pub mod First
 pub mod Chains
+pub mod Digest

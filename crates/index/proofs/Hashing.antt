@@ -1,56 +1,53 @@
--- Laws of the hash: four arguments more, and the rest. Assumes nothing.
-use Prim.Native.Nat.{ℕ, ◌+◌, ◌*◌, ◌-◌, ◌%◌, ◌<◌, ◌≤◌}
-use mathlib.Core.Path.{◌≡◌, refl, ap, ◌∙◌}
+-- Laws of the hash: the last arguments, and four more. Assumes nothing.
+use Prim.Native.Nat.{ℕ, ◌*◌, ◌-◌, ◌%◌, ◌<◌, ◌≤◌}
+use mathlib.Core.Path.{◌≡◌, refl}
 use mathlib.Core.List.{List, [], ◌∷◌}
 use native.Mathlib.Omega.{arith}
 use native.Mathlib.Nat.{mod-lt, div-lt_iff_lt-mul, mul-lt-mul_of_pos_right, mul-le-mul, mul_comm}
-use lib.ListN.{length, get_or, drop, length-drop, drop_of_length-le}
-use Rattle.model.proofs.Lists.{drop_next}
+use lib.ListN.{length, get_or, take, drop, length-drop}
+use Rattle.std.proofs.lemmas.List.{take_all}
 use Rattle.index.specs.Hash.{two, four, fours, mix, mix_all, spread_over, Multiplier}
 
-pub mix_step : (by h : ℕ) (l : List ℕ) (i : ℕ) → i < length l → mix_all by h (drop i l) ≡ mix_all by (mix by h (get_or l i 0)) (drop (i + 1) l)
-unfolding mix_all
-mix_step by h l i lt = rw (drop_next l i lt)
-
-pub mix_end : (by h : ℕ) (l : List ℕ) (i : ℕ) → length l ≤ i → mix_all by h (drop i l) ≡ h
-unfolding mix_all
-mix_end by h l i ge = rw (drop_of_length-le l {i = i} ge)
-
-pub fours_step : (by h : ℕ) (l : List ℕ) (i : ℕ) → 3 < length l - i
-    → mix_all by h (fours (drop i l)) ≡ mix_all by (mix by h (four (get_or l i 0) (get_or l (i + 1) 0) (get_or l (i + 2) 0) (get_or l (i + 3) 0))) (fours (drop (i + 4) l))
+-- the last arguments: none, one, two or three
+pub rest_none : (by h : ℕ) (l : List ℕ) → length l < 1 → h ≡ mix_all by h (fours l)
 unfolding fours mix_all
-fours_step by h l i lt =
-    let a : i + 1 + 1 ≡ i + 2 = omega arith in
-    let b : i + 2 + 1 ≡ i + 3 = omega arith in
-    let c : i + 3 + 1 ≡ i + 4 = omega arith in
-    rw (drop_next l i (omega arith), drop_next l (i + 1) (omega arith), a, drop_next l (i + 2) (omega arith), b, drop_next l (i + 3) (omega arith), c)
+rest_none by h [] lt = refl
+rest_none by h (a ∷ l) lt = absurd (omega arith)
 
--- fewer than four: two, then one
-one_four : (xs : List ℕ) → length xs ≤ 1 → fours xs ≡ xs
-unfolding fours
-one_four [] l = refl
-one_four (a ∷ []) l = refl
-one_four (a ∷ b ∷ xs) l = absurd (omega arith)
+pub rest_one : (by h : ℕ) (l : List ℕ) → 1 ≤ length l → length l < 2 → mix by h (get_or l 0 0) ≡ mix_all by h (fours l)
+unfolding fours mix_all
+rest_one by h [] ge lt = absurd (omega arith)
+rest_one by h (a ∷ []) ge lt = refl
+rest_one by h (a ∷ b ∷ l) ge lt = absurd (omega arith)
 
-two_four : (a b : ℕ) (xs : List ℕ) → length xs ≤ 1 → fours (a ∷ b ∷ xs) ≡ two a b ∷ xs
-unfolding fours
-two_four a b [] l = refl
-two_four a b (c ∷ []) l = refl
-two_four a b (c ∷ d ∷ xs) l = absurd (omega arith)
+pub rest_two : (by h : ℕ) (l : List ℕ) → 2 ≤ length l → length l < 3 → mix by h (two (get_or l 0 0) (get_or l 1 0)) ≡ mix_all by h (fours l)
+unfolding fours mix_all
+rest_two by h [] ge lt = absurd (omega arith)
+rest_two by h (a ∷ []) ge lt = absurd (omega arith)
+rest_two by h (a ∷ b ∷ []) ge lt = refl
+rest_two by h (a ∷ b ∷ c ∷ l) ge lt = absurd (omega arith)
 
-pub rest_one : (by h : ℕ) (l : List ℕ) (i : ℕ) → length l - i < 2 → mix_all by h (fours (drop i l)) ≡ mix_all by h (drop i l)
-rest_one by h l i lt = ap (mix_all by h) (one_four (drop i l) (rw (length-drop i l) (omega arith)))
+pub rest_three : (by h : ℕ) (l : List ℕ) → 3 ≤ length l → length l ≤ 3 → mix by (mix by h (two (get_or l 0 0) (get_or l 1 0))) (get_or l 2 0) ≡ mix_all by h (fours l)
+unfolding fours mix_all
+rest_three by h [] ge lt = absurd (omega arith)
+rest_three by h (a ∷ []) ge lt = absurd (omega arith)
+rest_three by h (a ∷ b ∷ []) ge lt = absurd (omega arith)
+rest_three by h (a ∷ b ∷ c ∷ []) ge lt = refl
+rest_three by h (a ∷ b ∷ c ∷ d ∷ l) ge lt = absurd (omega arith)
 
-pub rest_two : (by h : ℕ) (l : List ℕ) (i : ℕ) → 2 ≤ length l - i → length l - i ≤ 3
-    → mix_all by h (fours (drop i l)) ≡ mix_all by (mix by h (two (get_or l i 0) (get_or l (i + 1) 0))) (drop (i + 2) l)
-unfolding mix_all
-rest_two by h l i ge le =
-    let a : i + 1 + 1 ≡ i + 2 = omega arith in
-    let n : length (drop (i + 2) l) ≤ 1 = rw (length-drop (i + 2) l) (omega arith) in
-    rw (drop_next l i (omega arith), drop_next l (i + 1) (omega arith), a, two_four (get_or l i 0) (get_or l (i + 1) 0) (drop (i + 2) l) n)
+-- and four more
+pub fours_step : (by h : ℕ) (l : List ℕ) → 4 ≤ length l
+    → mix_all by (mix by h (four (get_or l 0 0) (get_or l 1 0) (get_or l 2 0) (get_or l 3 0))) (fours (drop 4 l)) ≡ mix_all by h (fours l)
+unfolding fours mix_all
+fours_step by h [] ge = absurd (omega arith)
+fours_step by h (a ∷ []) ge = absurd (omega arith)
+fours_step by h (a ∷ b ∷ []) ge = absurd (omega arith)
+fours_step by h (a ∷ b ∷ c ∷ []) ge = absurd (omega arith)
+fours_step by h (a ∷ b ∷ c ∷ d ∷ l) ge = refl
 
-pub last_one : (by h : ℕ) (l : List ℕ) (i : ℕ) → i < length l → length l - i ≤ 1 → mix_all by h (drop i l) ≡ mix by h (get_or l i 0)
-last_one by h l i lt le = mix_step by h l i lt ∙ mix_end by (mix by h (get_or l i 0)) l (i + 1) (omega arith)
+-- the arguments behind the first four
+pub behind_four : (l : List ℕ) → take (length l - 4) (drop 4 l) ≡ drop 4 l
+behind_four l = take_all (length l - 4) (drop 4 l) (rw (length-drop 4 l) (omega arith))
 
 pub spread_below : (by size h : ℕ) → 0 < size → spread_over by size h < size
 spread_below by size h pos =

@@ -1,27 +1,27 @@
 -- Laws of the index. Assumes nothing.
+use Rattle.std.specs.Prelude.{Option, Some, None, is_some, Ok, Err}
+use Rattle.std.specs.Cmp.Lexicographic.{pointwise}
 use Prim.Native.Nat.{ℕ, zero, suc, ◌+◌, ◌-◌, ◌*◌, ◌/◌, ◌%◌, ◌<◌, ◌≤◌}
 use mathlib.Core.Path.{◌≡◌, refl, sym, ap, ◌∙◌}
 use mathlib.Core.Bool.{Bool, true, false, ◌&&◌}
-use mathlib.Core.List.{List}
+use mathlib.Core.List.{List, [], ◌∷◌}
 use native.Mathlib.Omega.{arith}
 use lib.ListN.{length, get_or, set, length-map}
 use lib.Dec.{eqb}
 use borrow.Author.Tests.{eqb-true, eq-eqb}
 use Rattle.model.specs.Choice.{any_below}
-use Rattle.model.specs.Table.{Row, row_is, same_list}
+use Rattle.model.specs.Table.{Row, row_is, same_by, same_list}
 use Rattle.model.proofs.Choice.{any_true}
 use Rattle.model.proofs.Rows.{row_is_true}
 use Rattle.model.proofs.Lists.{same_length}
-use Rattle.std.specs.Prelude.{Option}
-use Rattle.std.specs.Prelude.{Some, None}
 use Rattle.chains.specs.First.{first_with}
 use Rattle.chains.specs.Chains.{Link, Chains, Clear}
-use Rattle.chains.proofs.First.{is_at, none_first, first_none, first_more, any_first}
+use Rattle.chains.proofs.First.{none_first, first_none, first_more, any_first}
 use Rattle.chains.proofs.Chains.{chained, chains_begin}
 use Rattle.rows.specs.Words.{symbol_in, next_in, nexts, args_in, row_in, row_no, row_held, rows_in, Inside, Held}
 use Rattle.rows.proofs.Words.{args_long, rows_long, row_held_lem}
 use Rattle.index.specs.Hash.{hash_of, Multiplier, Sized}
-use Rattle.index.specs.declared.Sought.TheVariants.{At as SoughtAt, Nothing as SoughtNothing, Crowded as SoughtCrowded}
+use Rattle.index.specs.declared.Crowded.{Crowded}
 use Rattle.index.specs.Index.{found_by, repeated_by, row_bucket, IndexBy, row_found, Index, SoughtRow}
 
 -- ---- rows that agree
@@ -87,6 +87,14 @@ module _ (pool words : List ℕ) where
 
 -- ---- the test of a row
 
+-- `==` of two lists says whether they are equal, entry by entry
+same_is : (xs ys : List ℕ) → pointwise eqb xs ys ≡ same_list xs ys
+unfolding same_by
+same_is [] [] = refl
+same_is [] (y ∷ ys) = refl
+same_is (x ∷ xs) [] = refl
+same_is (x ∷ xs) (y ∷ ys) = ap (λ (b : Bool). eqb x y && b) (same_is xs ys)
+
 -- a key that differs from the word's low bits
 pub key_differs : (pool : List ℕ) (w key : ℕ) (xs : List ℕ) → Inside pool w → key / 256 ≡ length xs → (w % 65536 ≡ key → ⊥) → false ≡ row_is (row_in pool w) (key % 256) xs
 unfolding row_is
@@ -98,14 +106,11 @@ key_differs pool w key xs inside e ne = go (eqb (symbol_in w) (key % 256)) refl
         rw (q, same_length eqb (args_in pool w) xs (λ h. ne (omega (arith, h, args_long pool w inside, e, s)))) refl
     go false q = rw q refl
 
-pub key_same : (pool : List ℕ) (w key : ℕ) (xs ys : List ℕ) (b : Bool) → w % 65536 ≡ key → ys ≡ args_in pool w → b ≡ same_list ys xs → b ≡ row_is (row_in pool w) (key % 256) xs
+pub key_same : (pool : List ℕ) (w key : ℕ) (xs ys : List ℕ) (b : Bool) → w % 65536 ≡ key → ys ≡ args_in pool w → b ≡ pointwise eqb ys xs → b ≡ row_is (row_in pool w) (key % 256) xs
 unfolding row_is
 key_same pool w key xs ys b e f g =
     let s : symbol_in w ≡ key % 256 = omega arith in
-    rw (eq-eqb (symbol_in w) (key % 256) s, ← f) g
-
-pub key_long : (pool : List ℕ) (w key : ℕ) → Inside pool w → w % 65536 ≡ key → length (args_in pool w) ≡ key / 256
-key_long pool w key inside e = args_long pool w inside ∙ omega arith
+    rw (eq-eqb (symbol_in w) (key % 256) s, ← f) (g ∙ same_is ys xs)
 
 -- ---- the walk along a chain, and one row more
 
@@ -133,8 +138,8 @@ module _ (row : ℕ → Row) (by size key : ℕ) (xs : List ℕ) where
       (any_true r k (λ j. row_is (row j) (row r).symbol (row r).args) lt (rw (a.0, a.1) y))
 
 -- what is found says whether an earlier row has the symbol and the arguments
-pub earlier_by : (row : ℕ → Row) (n s : ℕ) (xs : List ℕ) (o : Option ℕ) → o ≡ found_by row n s xs → any_below n (λ j. row_is (row j) s xs) ≡ is_at o
-earlier_by row n s xs o h = any_first (λ j. row_is (row j) s xs) n ∙ ap (λ (y : Option ℕ). is_at y) (sym h)
+pub earlier_by : (row : ℕ → Row) (n s : ℕ) (xs : List ℕ) (o : Option ℕ) → o ≡ found_by row n s xs → any_below n (λ j. row_is (row j) s xs) ≡ is_some o
+earlier_by row n s xs o h = any_first (λ j. row_is (row j) s xs) n ∙ ap (λ (y : Option ℕ). is_some y) (sym h)
 
 -- before the first row
 pub index_begins : (by size room : ℕ) (row : ℕ → Row) {heads next : List ℕ} → Clear size room heads next → IndexBy by size room row 0 heads next
@@ -173,26 +178,14 @@ module _ (pool words : List ℕ) (h : Held pool words (length words)) (s : ℕ) 
 -- ---- what seeking says
 
 module _ (found : Option ℕ) (most n : ℕ) where
-  pub sought_there : (k : ℕ) → Some k ≡ found → SoughtRow found most n (SoughtAt k)
-  sought_there k e = record {
-    at = λ m h. let z : k ≡ m = cc in rw (← z) e;
-    nothing = λ h. let z : ◌≡◌ {A = ℕ} 0 1 = cc in absurd (omega arith);
-    crowded = λ h. let z : ◌≡◌ {A = ℕ} 0 1 = cc in absurd (omega arith);
-  }
+  pub sought_there : (k : ℕ) → Some k ≡ found → SoughtRow found most n (Ok (Some k))
+  sought_there k e = record { sought = λ f h. let z : Some k ≡ f = cc in rw (← z) e; crowded = λ _ h. cc }
 
-  pub sought_nowhere : None ≡ found → SoughtRow found most n SoughtNothing
-  sought_nowhere e = record {
-    at = λ m h. let z : ◌≡◌ {A = ℕ} 0 1 = cc in absurd (omega arith);
-    nothing = λ h. e;
-    crowded = λ h. let z : ◌≡◌ {A = ℕ} 0 1 = cc in absurd (omega arith);
-  }
+  pub sought_nowhere : None ≡ found → SoughtRow found most n (Ok None)
+  sought_nowhere e = record { sought = λ f h. let z : None ≡ f = cc in rw (← z) e; crowded = λ _ h. cc }
 
-  pub sought_crowded : most ≤ n → SoughtRow found most n SoughtCrowded
-  sought_crowded le = record {
-    at = λ m h. let z : ◌≡◌ {A = ℕ} 0 1 = cc in absurd (omega arith);
-    nothing = λ h. let z : ◌≡◌ {A = ℕ} 0 1 = cc in absurd (omega arith);
-    crowded = λ h. le;
-  }
+  pub sought_crowded : (e : Crowded) → most ≤ n → SoughtRow found most n (Err e)
+  sought_crowded e le = record { sought = λ f h. cc; crowded = λ _ h. le }
 
 -- ---- the index of words by number, and of the list of their rows
 

@@ -1,21 +1,18 @@
 -- Laws of entering a row: what its chain says of it, and one word and one row more. Assumes nothing.
+use Rattle.std.specs.Prelude.{Option, is_some, Result, Ok, Err}
 use Prim.Native.Nat.{ℕ, ◌+◌, ◌*◌, ◌%◌, ◌<◌}
 use mathlib.Core.Path.{◌≡◌, refl, sym, ap, ◌∙◌}
-use mathlib.Core.Bool.{false}
+use mathlib.Core.Bool.{true, false}
 use mathlib.Core.List.{List}
 use native.Mathlib.Omega.{arith}
 use lib.ListN.{length, get_or, set}
 use lib.Seq.{get_or-set_same, get_or-set_other}
 use Rattle.model.specs.Choice.{any_below}
 use Rattle.model.specs.Table.{Row, row_is}
-use Rattle.std.specs.Prelude.{Option}
-use Rattle.std.specs.Prelude.{Some, None}
-use Rattle.chains.proofs.First.{is_at}
 use Rattle.rows.specs.Words.{a_row, word_of, next_in, nexts, row_in, row_held, Apart}
 use Rattle.rows.proofs.Words.{apart, row_of_lem, map_set}
-use Rattle.index.specs.declared.Sought.{Sought}
-use Rattle.index.specs.declared.Sought.TheVariants.{At as SoughtAt, Nothing as SoughtNothing, Crowded as SoughtCrowded}
-use Rattle.index.specs.declared.Entering.TheVariants.{Entered, Repeats, Crowded}
+use Rattle.index.specs.declared.Crowded.{Crowded}
+use Rattle.index.specs.declared.EnterError.TheVariants.{Repeats, Crowded as EnterCrowded}
 use Rattle.index.specs.Hash.{hash_of}
 use Rattle.index.specs.Index.{found_by, repeated_by, row_bucket, IndexBy, SoughtRow, Enterable, EnteredRow}
 use Rattle.index.proofs.Laws.{index_same, earlier_same, earlier_by, indexed}
@@ -33,29 +30,21 @@ unfolding repeated_by
 repeated_is row n e = ap (λ (r : Row). any_below n (λ j. row_is (row j) r.symbol r.args)) e
 
 module _ {by most : ℕ} {pool words heads : List ℕ} {n symbol target from : ℕ} {args : List ℕ} (x : Enterable by pool words heads n symbol target from args)
-    (key : ℕ) (is : key ≡ symbol + length args * 256) {o : Sought} (s : SoughtRow (found_by (row_held pool words) n (key % 256) args) most n o) where
+    (key : ℕ) (is : key ≡ symbol + length args * 256) {o : Result (Option ℕ) Crowded} (s : SoughtRow (found_by (row_held pool words) n (key % 256) args) most n o) where
   its_symbol : key % 256 ≡ symbol
   its_symbol = omega (arith, x.symbol_low)
 
   -- what is found says whether an earlier row has the symbol and the arguments
-  earlier : (f : Option ℕ) → f ≡ found_by (row_held pool words) n (key % 256) args → any_below n (λ j. row_is (row_held pool words j) symbol args) ≡ is_at f
+  earlier : (f : Option ℕ) → f ≡ found_by (row_held pool words) n (key % 256) args → any_below n (λ j. row_is (row_held pool words j) symbol args) ≡ is_some f
   earlier f e = earlier_by (row_held pool words) n symbol args f (rw its_symbol at e)
 
-  pub enter_repeats : (k : ℕ) → o ≡ SoughtAt k → EnteredRow by most pool words heads words heads n symbol target from args Repeats
-  enter_repeats k e = record {
-    enters = λ h. let z : ◌≡◌ {A = ℕ} 0 1 = cc in absurd (omega arith);
-    repeats = λ h. earlier (Some k) (s.at k e);
-    crowds = λ h. let z : ◌≡◌ {A = ℕ} 0 1 = cc in absurd (omega arith);
-  }
+  pub enter_repeats : (f : Option ℕ) → o ≡ Ok f → is_some f ≡ true → EnteredRow by most pool words heads words heads n symbol target from args (Err Repeats)
+  enter_repeats f e t = record { enters = λ h. cc; repeats = λ h. earlier f (s.sought f e) ∙ t; crowds = λ h. cc }
 
-  pub enter_crowded : o ≡ SoughtCrowded → EnteredRow by most pool words heads words heads n symbol target from args Crowded
-  enter_crowded e = record {
-    enters = λ h. let z : ◌≡◌ {A = ℕ} 0 1 = cc in absurd (omega arith);
-    repeats = λ h. let z : ◌≡◌ {A = ℕ} 0 1 = cc in absurd (omega arith);
-    crowds = λ h. s.crowded e;
-  }
+  pub enter_crowded : (k : Crowded) → o ≡ Err k → EnteredRow by most pool words heads words heads n symbol target from args (Err EnterCrowded)
+  enter_crowded k e = record { enters = λ h. cc; repeats = λ h. cc; crowds = λ h. s.crowded k e }
 
-  module _ (e : o ≡ SoughtNothing) (b : ℕ) (lt : b < length heads) (bucket : b ≡ hash_of by (length heads) key args) (w : ℕ) (word_is : w ≡ word_of symbol (length args) target from (get_or heads b 0)) where
+  module _ (f : Option ℕ) (e : o ≡ Ok f) (t : is_some f ≡ false) (b : ℕ) (lt : b < length heads) (bucket : b ≡ hash_of by (length heads) key args) (w : ℕ) (word_is : w ≡ word_of symbol (length args) target from (get_or heads b 0)) where
     parts : Apart w symbol (length args) target from (get_or heads b 0)
     parts = rw word_is (apart symbol (length args) target from (get_or heads b 0) x.symbol_low (omega (arith, x.few)) x.target_low x.near (omega (arith, (x.index.chains.heads_link b lt).within, x.early)))
 
@@ -69,16 +58,16 @@ module _ {by most : ℕ} {pool words heads : List ℕ} {n symbol target from : �
     its_bucket = bucket ∙ ap (λ (k : ℕ). hash_of by (length heads) k args) is ∙ ap (row_bucket by (length heads)) (sym here)
 
     new : repeated_by row n ≡ false
-    new = repeated_is row n here ∙ (sym (earlier_same (row_held pool words) row n (put_other pool words n w) symbol args) ∙ earlier None (s.nothing e))
+    new = repeated_is row n here ∙ (sym (earlier_same (row_held pool words) row n (put_other pool words n w) symbol args) ∙ earlier f (s.sought f e) ∙ t)
 
     entered : IndexBy by (length heads) (length words) row (n + 1) (set heads b (n + 1)) (nexts (set words n w))
     entered =
         rw (map_set next_in words n w, parts.next_is)
         (indexed (index_same (row_held pool words) row n (put_other pool words n w) x.index) b its_bucket lt x.room new)
 
-    pub enter_enters : EnteredRow by most pool words heads (set words n w) (set heads b (n + 1)) n symbol target from args Entered
+    pub enter_enters : EnteredRow by most pool words heads (set words n w) (set heads b (n + 1)) n symbol target from args (Ok tt)
     enter_enters = record {
       enters = λ h. record { word = w; next = get_or heads b 0; parts = parts; put = refl; index = entered };
-      repeats = λ h. let z : ◌≡◌ {A = ℕ} 0 1 = cc in absurd (omega arith);
-      crowds = λ h. let z : ◌≡◌ {A = ℕ} 0 1 = cc in absurd (omega arith);
+      repeats = λ h. cc;
+      crowds = λ h. cc;
     }

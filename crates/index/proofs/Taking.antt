@@ -1,7 +1,7 @@
 -- Laws of the one pass: the grounds 2 to 5 row by row, and 6 by the index of the rows before. Assumes nothing.
-use Rattle.std.specs.Prelude.{if◌then◌else◌}
+use Rattle.std.specs.Prelude.{Result, Ok, Err, if◌then◌else◌}
 use Prim.Native.Nat.{ℕ, zero, suc, ◌+◌, ◌*◌, ◌<◌, ◌≤◌}
-use mathlib.Core.Path.{◌≡◌, refl, sym, ap, ◌∙◌}
+use mathlib.Core.Path.{◌≡◌, refl, sym, ap, subst, ◌∙◌}
 use mathlib.Core.Bool.{Bool, true, false}
 use mathlib.Core.List.{List, [], ◌∷◌, map-append}
 use native.Mathlib.Omega.{arith}
@@ -13,7 +13,8 @@ use borrow.Author.Tests.{ltb-true, ltb-false}
 use borrow.Author.Count.{below_more}
 use Rattle.model.specs.declared.Kind.{Kind}
 use Rattle.model.specs.declared.Kind.TheVariants.{RepeatedRow}
-use Rattle.model.specs.Answers.{kind_number}
+use Rattle.model.specs.declared.Refusal.{Refusal}
+use Rattle.model.specs.Answers.{refused, refused_by, kind_number}
 use Rattle.model.specs.Choice.{any_below}
 use Rattle.model.specs.Table.{row_is, row_at, args_at, arg_count_at, row_start, row_numbered, how_many_rows, first_rows, rows_of}
 use Rattle.model.specs.Check.{repeated, row_ground}
@@ -23,12 +24,12 @@ use Rattle.model.proofs.Rows.{row_start_least, row_start_grows, row_count, how_m
 use Rattle.chains.specs.First.{AllFine, FirstAt}
 use Rattle.chains.specs.Chains.{Clear}
 use Rattle.chains.proofs.First.{first_none}
-use Rattle.rows.specs.declared.RowStep.TheVariants.{Fine, Faulty}
 use Rattle.rows.specs.Words.{a_row, next_in, nexts, after_in, row_in, rows_in, row_held, Inside, Held}
 use Rattle.rows.specs.Walk.{row_step, step_ground, form_ground, Room}
 use Rattle.rows.proofs.Words.{row_of_lem, next_at}
 use Rattle.rows.proofs.Walk.{form_else, ground_is, Stepped, stepped}
-use Rattle.index.specs.declared.Walked.TheVariants.{Passed, Stopped, Crowded}
+use Rattle.index.specs.declared.TakeError.{TakeError}
+use Rattle.index.specs.declared.TakeError.TheVariants.{Refused, Crowded}
 use Rattle.index.specs.Hash.{Multiplier, Sized}
 use Rattle.index.specs.Index.{repeated_by, IndexBy, Enterable, RowEntered}
 use Rattle.index.specs.Taken.{AllTaken, Taken}
@@ -94,6 +95,10 @@ module _ (pool words : List ℕ) (n : ℕ) (le : n ≤ length words) where
       link : (r : ℕ) → r < n → get_or (nexts (take n words)) r 0 ≡ get_or (nexts words) r 0
       link r l = next_at (take n words) r (rw long l) ∙ ap next_in (word_at r l) ∙ sym (next_at words r (omega arith))
 
+-- buckets that keep their number
+pub still_sized : (heads₀ heads : List ℕ) → Sized (length heads₀) → length heads ≡ length heads₀ → Sized (length heads)
+still_sized heads₀ heads s e = (omega (arith, s.0, e), omega (arith, s.1, e))
+
 -- ---- the pass
 
 -- n rows have passed, and the next begins at `at`: their words hold them, and they are indexed
@@ -130,34 +135,33 @@ module _ {by states : ℕ} {rows words heads : List ℕ} {at n : ℕ} (x : Takin
       row_by states rows i false (x.fine i l)
       (is_false (repeated rows i) (λ e. first_none (repeated_by (row_held rows words)) n x.index.distinct i l (repeated_same (row_held rows words) (row_numbered rows) n x.same i l ∙ e)))
 
-  pub taking_crowded : (most : ℕ) → most ≤ n → {words' heads' : List ℕ} → Taken by most states rows words' heads' Crowded
+  pub taking_crowded : (most : ℕ) → most ≤ n → {words' heads' : List ℕ} → Taken by most states rows words' heads' (Err Crowded)
   taking_crowded most le = record {
-    passed = λ m h. let z : ◌≡◌ {A = ℕ} 0 1 = cc in absurd (omega arith);
-    stopped = λ m k h. let z : ◌≡◌ {A = ℕ} 0 1 = cc in absurd (omega arith);
+    passed = λ m h. cc;
+    stopped = λ f h. cc;
     crowded = λ h. omega (arith, x.held.many);
   }
 
   module _ (lt : at < length rows) where
-    stopped_at : (most : ℕ) (k : Kind) → row_ground states rows n ≡ kind_number k → {words' heads' : List ℕ} → Taken by most states rows words' heads' (Stopped n k)
-    stopped_at most k e = record {
-      passed = λ m h. let z : ◌≡◌ {A = ℕ} 0 1 = cc in absurd (omega arith);
-      stopped = λ m k' h. other m k' h;
-      crowded = λ h. let z : ◌≡◌ {A = ℕ} 0 1 = cc in absurd (omega arith);
-    }
+    -- a refusal that is said of row n
+    stopped_at : (most : ℕ) (k : Kind) (f : Refusal) → refused_by f ≡ refused (kind_number k) n → row_ground states rows n ≡ kind_number k
+        → {words' heads' : List ℕ} → Taken by most states rows words' heads' (Err (Refused f))
+    stopped_at most k f said e = record { passed = λ m h. cc; stopped = λ g h. other g h; crowded = λ h. cc }
       where
-        first : FirstAt (how_many_rows rows) (row_ground states rows) n (kind_number k)
-        first = record { inside = inside rows n (rw x.here at lt); before = all_fine; here = e }
+        first : FirstAt (how_many_rows rows) (row_ground states rows) f.place (kind_number f.kind)
+        first =
+            let p : f.place ≡ n = cc in
+            let q : kind_number f.kind ≡ kind_number k = cc in
+            rw (p, q) (record { inside = inside rows n (rw x.here at lt); before = all_fine; here = e })
 
-        other : (m : ℕ) (k' : Kind) → Stopped n k ≡ Stopped m k' → FirstAt (how_many_rows rows) (row_ground states rows) m (kind_number k')
-        other m k' h =
-            let a : n ≡ m = cc in
-            let b : k ≡ k' = cc in
-            rw (← a, ← b) first
+        other : (g : Refusal) → ◌≡◌ {A = Result ℕ TakeError} (Err (Refused f)) (Err (Refused g)) → FirstAt (how_many_rows rows) (row_ground states rows) g.place (kind_number g.kind)
+        other g h = let z : f ≡ g = cc in subst (λ (r : Refusal). FirstAt (how_many_rows rows) (row_ground states rows) r.place (kind_number r.kind)) z first
 
-    pub taking_stops : (most : ℕ) (k : Kind) → row_step states rows n at ≡ Faulty k → {words' heads' : List ℕ} → Taken by most states rows words' heads' (Stopped n k)
-    taking_stops most k e = stopped_at most k (row_form states rows n (kind_number k) (ap step_ground (rw x.here at e)) (kind_positive k))
+    pub taking_stops : (most : ℕ) (k : Kind) (f : Refusal) → refused_by f ≡ refused (kind_number k) n → row_step states rows n at ≡ Err k
+        → {words' heads' : List ℕ} → Taken by most states rows words' heads' (Err (Refused f))
+    taking_stops most k f said e = stopped_at most k f said (row_form states rows n (kind_number k) (ap step_ground (rw x.here at e)) (kind_positive k))
 
-    module _ (few : states ≤ 256) (e : row_step states rows n at ≡ Fine) where
+    module _ (few : states ≤ 256) (e : row_step states rows n at ≡ Ok tt) where
       step : Stepped states rows n at
       step = stepped states rows n at e
 
@@ -184,20 +188,20 @@ module _ {by states : ℕ} {rows words heads : List ℕ} {at n : ℕ} (x : Takin
         part = rw args_many refl;
       })
 
-      pub taking_repeats : (most : ℕ) (args : List ℕ) → args ≡ args_at rows at → any_below n (λ j. row_is (row_held rows words j) (get_or rows at 0) args) ≡ true
-          → {words' heads' : List ℕ} → Taken by most states rows words' heads' (Stopped n RepeatedRow)
+      pub taking_repeats : (most : ℕ) (f : Refusal) → refused_by f ≡ refused 6 n → (args : List ℕ) → args ≡ args_at rows at → any_below n (λ j. row_is (row_held rows words j) (get_or rows at 0) args) ≡ true
+          → {words' heads' : List ℕ} → Taken by most states rows words' heads' (Err (Refused f))
       unfolding repeated
-      taking_repeats most args is t =
-          stopped_at most RepeatedRow
+      taking_repeats most f said args is t =
+          stopped_at most RepeatedRow f said
           (row_by states rows n true form_fine
           (sym (earlier_same (row_held rows words) (row_numbered rows) n x.same (row_numbered rows n).symbol (row_numbered rows n).args)
           ∙ ap (λ (a : ℕ). any_below n (λ j. row_is (row_held rows words j) (get_or rows a 0) (args_at rows a))) (sym x.here)
           ∙ (rw is at t)))
 
       pub taking_goes : (args : List ℕ) → args ≡ args_at rows at → {words' heads' : List ℕ} → RowEntered by rows words heads words' heads' n (get_or rows at 0) (get_or rows (at + 1) 0) (at + 3) args
-          → Taking by states rows words' heads' (at + 3 + length args) (n + 1)
+          → Taking by states rows words' heads' (at + (3 + length args)) (n + 1)
       taking_goes args is {words'} {heads'} y = record {
-        here = rw (args_is, start_next rows n, ← x.here) refl;
+        here = rw (args_is, start_next rows n, ← x.here) (omega arith);
         near = omega (arith, x.near, args_is, step.few);
         room = λ k early l. rw length_is (x.room k early l);
         held = record {
@@ -236,12 +240,12 @@ module _ {by states : ℕ} {rows words heads : List ℕ} {at n : ℕ} (x : Takin
           row_is_lem : row_in rows w ≡ row_at rows at
           row_is_lem = row_of_lem rows y.parts ∙ ap (λ (k : ℕ). a_row (get_or rows at 0) (get_or rows (at + 1) 0) (take k (drop (at + 3) rows))) args_is
 
-  pub taking_ends : (most : ℕ) → Multiplier by → Sized (length heads) → length rows ≤ at → Taken by most states rows words heads (Passed n)
+  pub taking_ends : (most : ℕ) → Multiplier by → Sized (length heads) → length rows ≤ at → Taken by most states rows words heads (Ok n)
   unfolding rows_of
   taking_ends most m s ge = record {
     passed = λ k h. other k h;
-    stopped = λ k j h. let z : ◌≡◌ {A = ℕ} 0 1 = cc in absurd (omega arith);
-    crowded = λ h. let z : ◌≡◌ {A = ℕ} 0 1 = cc in absurd (omega arith);
+    stopped = λ f h. cc;
+    crowded = λ h. cc;
   }
     where
       all : how_many_rows rows ≡ n
@@ -262,5 +266,5 @@ module _ {by states : ℕ} {rows words heads : List ℕ} {at n : ℕ} (x : Takin
         free = λ r l. ap after_in (word_at rows words n x.held.long r l) ∙ x.free r l;
       }
 
-      other : (k : ℕ) → Passed n ≡ Passed k → AllTaken by states rows (take k words) heads k
+      other : (k : ℕ) → ◌≡◌ {A = Result ℕ TakeError} (Ok n) (Ok k) → AllTaken by states rows (take k words) heads k
       other k h = let a : n ≡ k = cc in rw (← a) taken

@@ -1,16 +1,13 @@
 -- The index of rows: the rows chained by bucket, however they are lent; and one row more. Assumes nothing: these are definitions.
-use Rattle.std.specs.Prelude.{ℕ, ◌+◌, ◌*◌, ◌/◌, ◌≤◌, ◌<◌, ◌≡◌, Bool, true, List, length, set, take, drop}
+use Rattle.std.specs.Prelude.{ℕ, ◌+◌, ◌*◌, ◌/◌, ◌≤◌, ◌<◌, ◌≡◌, Bool, true, List, length, set, take, drop, Option, None, Result, Ok, Err}
 use Rattle.model.specs.Choice.{any_below}
 use Rattle.model.specs.Table.{Row, row_is}
-use Rattle.std.specs.Prelude.{Option}
-use Rattle.std.specs.Prelude.{Some, None}
 use Rattle.chains.specs.First.{first_with}
 use Rattle.chains.specs.Chains.{Chains}
 use Rattle.rows.specs.Words.{row_no, nexts, row_held, Held, Apart}
-use Rattle.index.specs.declared.Sought.{Sought}
-use Rattle.index.specs.declared.Sought.TheVariants.{At as SoughtAt, Nothing as SoughtNothing, Crowded as SoughtCrowded}
-use Rattle.index.specs.declared.Entering.{Entering}
-use Rattle.index.specs.declared.Entering.TheVariants.{Entered, Repeats, Crowded}
+use Rattle.index.specs.declared.Crowded.{Crowded}
+use Rattle.index.specs.declared.EnterError.{EnterError}
+use Rattle.index.specs.declared.EnterError.TheVariants.{Repeats, Crowded as EnterCrowded}
 use Rattle.index.specs.Hash.{hash_of, Multiplier, Sized}
 
 -- rows given by number: the first of the first n with symbol s and arguments xs
@@ -41,10 +38,9 @@ pub record Index (by : ℕ) (rows : List Row) (heads next : List ℕ) : Type 0 w
 
 -- the row with a symbol and arguments, if its chain is walked at most so many steps. Crowded is said only where there are at least so many rows;
 -- of when, nothing is promised: it costs time and no answer
-pub record SoughtRow (found : Option ℕ) (most n : ℕ) (r : Sought) : Type 0 where
-  pub at : (k : ℕ) → r ≡ SoughtAt k → Some k ≡ found
-  pub nothing : r ≡ SoughtNothing → None ≡ found
-  pub crowded : r ≡ SoughtCrowded → most ≤ n
+pub record SoughtRow (found : Option ℕ) (most n : ℕ) (r : Result (Option ℕ) Crowded) : Type 0 where
+  pub sought : (f : Option ℕ) → r ≡ Ok f → f ≡ found
+  pub crowded : (e : Crowded) → r ≡ Err e → most ≤ n
 
 -- what a chain is walked from: the first n words hold rows, which are chained, and b is the bucket of the key and the arguments
 pub record Seeking (pool words heads : List ℕ) (n b key : ℕ) (args : List ℕ) : Type 0 where
@@ -80,7 +76,7 @@ pub record RowEntered (by : ℕ) (pool words₀ heads₀ words heads : List ℕ)
   pub index : IndexBy by (length heads₀) (length words₀) (row_held pool words) (n + 1) heads (nexts words)
 
 -- it was entered; or it has the symbol and the arguments of a row before it; or it is said to be crowded, as above
-pub record EnteredRow (by most : ℕ) (pool words₀ heads₀ words heads : List ℕ) (n symbol target from : ℕ) (args : List ℕ) (r : Entering) : Type 0 where
-  pub enters : r ≡ Entered → RowEntered by pool words₀ heads₀ words heads n symbol target from args
-  pub repeats : r ≡ Repeats → any_below n (λ j. row_is (row_held pool words₀ j) symbol args) ≡ true
-  pub crowds : r ≡ Crowded → most ≤ n
+pub record EnteredRow (by most : ℕ) (pool words₀ heads₀ words heads : List ℕ) (n symbol target from : ℕ) (args : List ℕ) (r : Result (Unit {0}) EnterError) : Type 0 where
+  pub enters : r ≡ Ok tt → RowEntered by pool words₀ heads₀ words heads n symbol target from args
+  pub repeats : r ≡ Err Repeats → any_below n (λ j. row_is (row_held pool words₀ j) symbol args) ≡ true
+  pub crowds : r ≡ Err EnterCrowded → most ≤ n

@@ -1,6 +1,6 @@
 -- Packed rows by the grounds 2 to 6, in one pass. Assumes nothing: these are definitions.
-use Rattle.std.specs.Prelude.{ℕ, ◌<◌, ◌≤◌, ◌≡◌, List, length, get_or, take}
-use Rattle.model.specs.declared.Kind.{Kind}
+use Rattle.std.specs.Prelude.{ℕ, ◌<◌, ◌≤◌, ◌≡◌, List, length, get_or, take, Result, Ok, Err}
+use Rattle.model.specs.declared.Refusal.{Refusal}
 use Rattle.model.specs.Answers.{kind_number}
 use Rattle.model.specs.Table.{rows_of, how_many_rows}
 use Rattle.model.specs.Check.{row_ground}
@@ -8,8 +8,8 @@ use Rattle.chains.specs.First.{AllFine, FirstAt}
 use Rattle.chains.specs.Chains.{Clear}
 use Rattle.rows.specs.Words.{rows_in, nexts, after_in, Held}
 use Rattle.rows.specs.Walk.{Room}
-use Rattle.index.specs.declared.Walked.{Walked}
-use Rattle.index.specs.declared.Walked.TheVariants.{Passed, Stopped, Crowded}
+use Rattle.index.specs.declared.TakeError.{TakeError}
+use Rattle.index.specs.declared.TakeError.TheVariants.{Refused, Crowded}
 use Rattle.index.specs.Hash.{Multiplier, Sized}
 use Rattle.index.specs.Index.{Index}
 
@@ -33,7 +33,7 @@ pub record AllTaken (by states : ℕ) (rows words heads : List ℕ) (n : ℕ) : 
 
 -- all rows are taken, into the first words; or the first faulty one is found; or a bucket is said to be crowded, which more than 1,024 allowed
 -- steps shut out
-pub record Taken (by most states : ℕ) (rows words heads : List ℕ) (r : Walked) : Type 0 where
-  pub passed : (n : ℕ) → r ≡ Passed n → AllTaken by states rows (take n words) heads n
-  pub stopped : (n : ℕ) (k : Kind) → r ≡ Stopped n k → FirstAt (how_many_rows rows) (row_ground states rows) n (kind_number k)
-  pub crowded : r ≡ Crowded → most ≤ 1024
+pub record Taken (by most states : ℕ) (rows words heads : List ℕ) (r : Result ℕ TakeError) : Type 0 where
+  pub passed : (n : ℕ) → r ≡ Ok n → AllTaken by states rows (take n words) heads n
+  pub stopped : (f : Refusal) → r ≡ Err (Refused f) → FirstAt (how_many_rows rows) (row_ground states rows) f.place (kind_number f.kind)
+  pub crowded : r ≡ Err Crowded → most ≤ 1024

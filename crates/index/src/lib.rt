@@ -2,54 +2,39 @@
 #![tactic(auto)]
 
 ghost use Rattle.std.specs.Prelude.{◌≡◌, ◌+◌, ◌*◌, ◌/◌, ◌%◌, ◌<◌, ◌≤◌, length, get_or, drop};
-ghost use Rattle.model.specs.Table.{same_list, row_is};
+ghost use Rattle.model.specs.Table.{row_is};
 ghost use Rattle.rows.specs.Words.{row_in, row_held, rows_in, nexts, Inside, Held};
 ghost use Rattle.index.specs.Hash.{two, fours, mix, mix_all, hash_of, Multiplier, Sized};
 ghost use Rattle.index.specs.Index.{found_by, row_found, Index, SoughtRow, Seeking, Enterable, EnteredRow};
 ghost use Rattle.index.specs.Taken.{Takeable, Taken};
+ghost use Rattle.index.specs.declared.EnterError.TheVariants.{Crowded as EnterCrowded};
 
-use chains::{wide, wider};
-use model::Kind;
-use rows::RowStep;
+use model::{Kind, Refusal, refuse};
 
-// The row that was looked for; or nothing, at the end of its chain; or the chain is longer than allowed.
+// A chain of the index is longer than allowed.
 #[derive(Clone, Copy)]
-pub enum Sought {
-    At(usize),
-    Nothing,
-    Crowded,
-}
+pub struct Crowded;
 
-// A row was entered in the index; or it repeats an earlier one; or its chain is longer than allowed.
+// Why a row was not entered in the index: it repeats an earlier one, or its chain is longer than allowed.
 #[derive(Clone, Copy)]
-pub enum Entering {
-    Entered,
+pub enum EnterError {
     Repeats,
     Crowded,
 }
 
-// How many rows there are, where all pass; or how many pass before a faulty one, and the ground on which it is faulty; or a chain of the index is
-// longer than allowed.
-#[derive(Clone, Copy)]
-pub enum Walked {
-    Passed(usize),
-    Stopped(usize, Kind),
-    Crowded,
+impl From<Crowded> for EnterError {
+    ghost from_gives = { λ _ e. e ≡ EnterCrowded };
+
+    fn from(_e: Crowded) -> EnterError {
+        EnterError::Crowded
+    }
 }
 
-// Whether two argument lists of one length are equal.
-fn same(a: &[u16], b: &[u16]) -> bool
-    requires { length a.now ≡ length b.now }
-    ensures { result ≡ same_list a.now b.now }
-{
-    let mut i: usize = 0;
-    while i < a.len() {
-        if a[i] != b[i] {
-            return false;
-        }
-        i += 1;
-    }
-    true
+// Why rows were not taken: the first faulty one is refused, or a chain of the index is longer than allowed.
+#[derive(Clone, Copy)]
+pub enum TakeError {
+    Refused(Refusal),
+    Crowded,
 }
 
 // Whether the row of a word has the symbol and the count of a key, and these arguments.
@@ -57,18 +42,14 @@ fn row_is(pool: &[u16], w: u64, key: u64, args: &[u16]) -> bool
     requires { Inside pool.now w × (key / 256 ≡ length args.now) }
     ensures { result ≡ row_is (row_in pool.now w) (key % 256) args.now }
 {
-    if w % 65536 != key {
-        return false;
-    }
-    same(rows::args_in(pool, w), args)
+    w % 65536 == key && rows::args_in(pool, w) == args
 }
 
 // Two arguments as one number.
-pub fn two_at(args: &[u16], i: usize) -> u64
-    requires { i + 1 < length args.now }
-    ensures { (result ≡ two (get_or args.now i 0) (get_or args.now (i + 1) 0)) × (result < 4294967296) }
+pub fn two(a: u16, b: u16) -> u64
+    ensures { (result ≡ two a b) × (result < 4294967296) }
 {
-    wider(args[i]) + wider(args[i + 1]) * 65536
+    u64::from(a) + u64::from(b) * 65536
 }
 
 // One number more in a hash.
@@ -79,26 +60,17 @@ fn mixed(by: u64, h: u64, x: u64) -> u64
     (h * by + x) % 4294967296
 }
 
-// The argument from `from` on, at most one, in a hash.
-fn mix_last(by: u64, start: u64, args: &[u16], from: usize) -> u64
-    requires { Multiplier by × (start < 4294967296) × (from ≤ length args.now) × (length args.now ≤ from + 1) }
-    ensures { (result ≡ mix_all by start (drop from args.now)) × (result < 4294967296) }
+// The last arguments, at most three, in a hash.
+fn mix_rest(by: u64, start: u64, args: &[u16]) -> u64
+    requires { Multiplier by × (start < 4294967296) × (length args.now ≤ 3) }
+    ensures { (result ≡ mix_all by start (fours args.now)) × (result < 4294967296) }
 {
-    if args.len() <= from {
-        return start;
+    match args {
+        [a, b, c, ..] => mixed(by, mixed(by, start, two(*a, *b)), u64::from(*c)),
+        [a, b] => mixed(by, start, two(*a, *b)),
+        [a] => mixed(by, start, u64::from(*a)),
+        [] => start,
     }
-    mixed(by, start, wider(args[from]))
-}
-
-// The arguments from `from` on, at most three, in a hash.
-fn mix_rest(by: u64, start: u64, args: &[u16], from: usize) -> u64
-    requires { Multiplier by × (start < 4294967296) × (from ≤ length args.now) × (length args.now ≤ from + 3) }
-    ensures { (result ≡ mix_all by start (fours (drop from args.now))) × (result < 4294967296) }
-{
-    if args.len() - from < 2 {
-        return mix_last(by, start, args, from);
-    }
-    mix_last(by, mixed(by, start, two_at(args, from)), args, from + 2)
 }
 
 // The bucket, of `size`, of a key and arguments.
@@ -107,12 +79,12 @@ fn hash(by: u64, size: usize, key: u64, args: &[u16]) -> usize
     ensures { (result ≡ hash_of by size key args.now) × (result < size) }
 {
     let mut h = key;
-    let mut i: usize = 0;
-    while 3 < args.len() - i {
-        h = mixed(by, h, two_at(args, i) + two_at(args, i + 2) * 256);
-        i += 4;
+    let mut left = args;
+    while let [a, b, c, d, rest @ ..] = left {
+        h = mixed(by, h, two(*a, *b) + two(*c, *d) * 256);
+        left = rest;
     }
-    let x = mix_rest(by, h, args, i) * by % 4294967296;
+    let x = mix_rest(by, h, left) * by % 4294967296;
     (x * size as u64 / 4294967296) as usize
 }
 
@@ -126,24 +98,24 @@ fn seek(
     most: usize,
     key: u64,
     args: &[u16],
-) -> Sought
+) -> Result<Option<usize>, Crowded>
     requires { Seeking pool.now words.now heads.now n b key args.now }
     ensures { SoughtRow (found_by (row_held pool.now words.now) n (key % 256) args.now) most n result }
 {
-    let mut p = wide(heads[b]);
-    let mut steps: usize = 0;
+    let mut p = usize::from(heads[b]);
+    let mut steps = 0;
     while 0 < p {
         if most <= steps {
-            return Sought::Crowded;
+            return Err(Crowded);
         }
         let w = words[p - 1];
         if row_is(pool, w, key, args) {
-            return Sought::At(p - 1);
+            return Ok(Some(p - 1));
         }
         p = rows::next_in(w);
         steps += 1;
     }
-    Sought::Nothing
+    Ok(None)
 }
 
 // The row with this symbol and these arguments.
@@ -159,20 +131,13 @@ pub fn find_row(
     requires index { Index by (rows_in pool.now words.now) heads.now (nexts words.now) }
     ensures { result ≡ row_found (rows_in pool.now words.now) symbol args.now }
 {
-    if 16 < args.len() {
+    if 16 < args.len() || 255 < symbol {
         return None;
     }
-    if 255 < symbol {
-        return None;
-    }
-    let key = wider(symbol) + args.len() as u64 * 256;
+    let key = u64::from(symbol) + args.len() as u64 * 256;
     let b = hash(by, heads.len(), key, args);
-    match seek(pool, words, heads, words.len(), b, 2048, key, args) {
-        Sought::At(k) => Some(k),
-        Sought::Nothing => None,
-        // not reached: no chain has more than 1,024 rows
-        Sought::Crowded => None,
-    }
+    // no chain has more than 1,024 rows
+    seek(pool, words, heads, words.len(), b, 2048, key, args).unwrap()
 }
 
 // Puts row n, whose arguments begin at `from` in the pool, behind the words of the rows before it, and enters it in their index, unless it
@@ -188,23 +153,20 @@ pub fn enter_row(
     most: usize,
     words: &mut [u64],
     heads: &mut [u16],
-) -> Entering
+) -> Result<(), EnterError>
     requires { Enterable by pool.now words.old heads.old n symbol target from args.now }
     ensures { EnteredRow by most pool.now words.old heads.old words.new heads.new
         n symbol target from args.now result }
 {
     let count = args.len();
-    let key = wider(symbol) + count as u64 * 256;
+    let key = u64::from(symbol) + count as u64 * 256;
     let b = hash(by, heads.len(), key, args);
-    match seek(pool, &*words, &*heads, n, b, most, key, args) {
-        Sought::At(_) => Entering::Repeats,
-        Sought::Crowded => Entering::Crowded,
-        Sought::Nothing => {
-            words[n] = rows::word(symbol, count, target, from, heads[b]);
-            heads[b] = (n + 1) as u16;
-            Entering::Entered
-        }
+    if seek(pool, words, heads, n, b, most, key, args)?.is_some() {
+        return Err(EnterError::Repeats);
     }
+    words[n] = rows::word(symbol, count, target, from, heads[b]);
+    heads[b] = (n + 1) as u16;
+    Ok(())
 }
 
 // Takes the packed rows in turn by the grounds 2 to 6, up to the first for which one holds or whose chain has more than `most` rows; leaves a word for
@@ -216,44 +178,37 @@ pub fn take_rows(
     most: usize,
     words: &mut [u64],
     heads: &mut [u16],
-) -> Walked
+) -> Result<usize, TakeError>
     requires { Takeable by states rows.now words.old heads.old }
     ensures { Taken by most states rows.now words.new heads.new result }
 {
-    let mut at: usize = 0;
-    let mut n: usize = 0;
+    let mut at = 0;
+    let mut n = 0;
     while at < rows.len() {
-        match rows::step_row(states, rows, n, at) {
-            RowStep::Fine => {
-                let args = rows::args_at(rows, at);
-                match enter_row(
-                    rows,
-                    rows[at],
-                    rows[at + 1],
-                    at + 3,
-                    args,
-                    n,
-                    by,
-                    most,
-                    words,
-                    heads,
-                ) {
-                    Entering::Entered => {
-                        at = at + 3 + args.len();
-                        n += 1;
-                    }
-                    Entering::Repeats => {
-                        return Walked::Stopped(n, Kind::RepeatedRow);
-                    }
-                    Entering::Crowded => {
-                        return Walked::Crowded;
-                    }
-                }
-            }
-            RowStep::Faulty(kind) => {
-                return Walked::Stopped(n, kind);
-            }
+        if let Err(kind) = rows::step_row(states, rows, n, at) {
+            return Err(TakeError::Refused(refuse(kind, n as u64)));
         }
+        let args = rows::args_at(rows, at);
+        match enter_row(
+            rows,
+            rows[at],
+            rows[at + 1],
+            at + 3,
+            args,
+            n,
+            by,
+            most,
+            words,
+            heads,
+        ) {
+            Ok(()) => {}
+            Err(EnterError::Repeats) => {
+                return Err(TakeError::Refused(refuse(Kind::RepeatedRow, n as u64)));
+            }
+            Err(EnterError::Crowded) => return Err(TakeError::Crowded),
+        }
+        at += 3 + args.len();
+        n += 1;
     }
-    Walked::Passed(n)
+    Ok(n)
 }

@@ -1,5 +1,5 @@
 -- The check, and what follows it: the parts' promises together are the operations'. Assumes nothing.
-use Rattle.std.specs.Prelude.{if◌then◌else◌}
+use Rattle.std.specs.Prelude.{Result, Ok, Err, if◌then◌else◌}
 use Prim.Native.Nat.{ℕ, ◌<◌, ◌≤◌}
 use mathlib.Core.Path.{◌≡◌, refl, sym, ap, subst, ◌∙◌}
 use mathlib.Core.List.{List, map}
@@ -7,7 +7,6 @@ use native.Mathlib.Omega.{arith}
 use native.Mathlib.Decide.{dec_le}
 use native.Mathlib.Nat.{lt_of_not-le}
 use lib.ListN.{length, get_or, take, replicate, length-replicate, get_or-replicate, get_or-eq_default}
-use lib.Seq.{length-take-le}
 use lib.Dec.{ltb}
 use borrow.Author.Tests.{ltb-true}
 use mathlib.Core.Bool.{Bool, true, false, not}
@@ -21,9 +20,7 @@ use Rattle.model.specs.Entries.{tree_then, tree_from}
 use Rattle.model.specs.Value.{tree_number, tree_of}
 use Rattle.model.specs.Number.{checked_then, accepted_then, number_tree, number_outcome}
 use Rattle.model.specs.Write.{tree_fits, tree_entries, write_tree, write_tree_list, write_outcome, write_list}
-use Rattle.std.specs.Prelude.{Result}
 use Rattle.model.specs.declared.Refusal.{Refusal}
-use Rattle.std.specs.Prelude.{Ok, Err}
 use Rattle.model.proofs.Good.{Good, Within}
 use Rattle.model.proofs.Counting.{total_is as total_sum}
 use Rattle.model.proofs.Used.{used_state}
@@ -35,7 +32,6 @@ use Rattle.counts.specs.States.{held}
 use Rattle.counts.specs.Prepared.{UsedCounts, every_listed, Left, used, whole}
 use Rattle.counts.proofs.Prepared.{as_counted, as_whole, every_good, whole_used, whole_short}
 use Rattle.table.specs.declared.Checked.{Checked}
-use Rattle.table.specs.declared.Checked.TheVariants.{Sound, Refuses}
 use Rattle.table.specs.Checked.{told, Blank, CheckAnswer, PreparedRows}
 use Rattle.rank.specs.RankReady.{RankReady, TableReady}
 use Rattle.rank.specs.Machine.{machine}
@@ -77,10 +73,10 @@ blank {states} {rows} w h s room sized few = record {
 then_same : (f : ℕ → Outcome) {o o' : Outcome} → o ≡ o' → checked_then o f ≡ checked_then o' f
 then_same f e = ap (λ (x : Outcome). checked_then x f) e
 
-module _ {prepare : Bool} {states : ℕ} {rows accepting words heads first counts sums : List ℕ} {k : Checked}
-    (a : CheckAnswer prepare states rows accepting words heads first counts sums k) (tree old : List ℕ) where
+module _ {prepare : Bool} {states : ℕ} {rows accepting words heads first counts sums : List ℕ} {o : Result Checked Refusal}
+    (a : CheckAnswer prepare states rows accepting words heads first counts sums o) (tree old : List ℕ) where
   -- the check refuses
-  pub check_refused : (task : Task) (f : Refusal) → k ≡ Refuses f → Answered task states rows accepting tree old old (Err f)
+  pub check_refused : (task : Task) (f : Refusal) → o ≡ Err f → Answered task states rows accepting tree old old (Err f)
   unfolding number_outcome number_tree write_outcome write_tree write_list write_tree_list
   check_refused task f e = by_task task
     where
@@ -95,7 +91,7 @@ module _ {prepare : Bool} {states : ℕ} {rows accepting words heads first count
         list = ap (λ (o : Outcome). lent_after o (tree_entries (table_of states rows accepting) number) old) (then_same _ refuses);
       }
 
-  module _ (t n by : ℕ) (e : k ≡ Sound t n by) where
+  module _ (t n by : ℕ) (e : o ≡ Ok (record { total = t; rows = n; by = by })) where
     passes : Passes states rows accepting t
     passes = sym a.answer ∙ ap told e
 
@@ -103,9 +99,9 @@ module _ {prepare : Bool} {states : ℕ} {rows accepting words heads first count
     check_passed = record { answer = sym passes; list = refl }
 
   -- numbering and writing go on from what the check leaves
-  module _ (t n by : ℕ) (e : k ≡ Sound t n by) where
+  module _ (t n by : ℕ) (e : o ≡ Ok (record { total = t; rows = n; by = by })) where
     p : PreparedRows prepare by states rows accepting words heads first counts sums n
-    p = a.passed t n by e
+    p = a.passed (record { total = t; rows = n; by = by }) e
 
     -- the table of the rows that the words hold is the table that is lent
     same_table : table_of states rows accepting ≡ held_table states rows (take n words) accepting
@@ -239,11 +235,6 @@ module _ {prepare : Bool} {states : ℕ} {rows accepting words heads first count
             answer = w.answer ∙ y.0 ∙ follows;
             list = w.list ∙ y.1 ∙ ap (λ (o : Outcome). lent_after o (tree_entries (table_of states rows accepting) number) old) (y.0 ∙ follows);
           }
-
--- the words of the rows: a part of the array, as long as there are rows
-pub part_long : {prepare : Bool} {states : ℕ} {rows accepting words heads first counts sums : List ℕ} {k : Checked}
-    → CheckAnswer prepare states rows accepting words heads first counts sums k → (t n by : ℕ) → k ≡ Sound t n by → n ≡ length (take n words)
-part_long {words = words} a t n by e = sym (length-take-le n words (a.passed t n by e).long)
 
 -- a task that is known prepares
 pub prepares_so : {task known : Task} {prepare : Bool} → prepare ≡ task_prepares task → task ≡ known → task_prepares known ≡ true → prepare ≡ true

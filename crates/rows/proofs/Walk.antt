@@ -1,5 +1,5 @@
 -- Laws of one row by the grounds 2 to 5. Assumes nothing.
-use Rattle.std.specs.Prelude.{if◌then◌else◌}
+use Rattle.std.specs.Prelude.{Result, Ok, Err, if◌then◌else◌}
 use Prim.Native.Nat.{ℕ, zero, suc, ◌+◌, ◌-◌, ◌<◌, ◌≤◌, max}
 use mathlib.Core.Path.{◌≡◌, refl, sym, ◌∙◌}
 use mathlib.Core.Bool.{Bool, true, false, ◌&&◌, not}
@@ -8,6 +8,7 @@ use native.Mathlib.Omega.{arith}
 use lib.ListN.{length, get_or, take, drop, drop_of_length-le}
 use lib.Dec.{ltb}
 use borrow.Author.Tests.{ltb-true, ltb-false, lt-ltb, le-ltb}
+use Rattle.model.specs.declared.Kind.{Kind}
 use Rattle.model.specs.declared.Kind.TheVariants.{CutRow, TooManyRowsOrArguments, NotInRange, ArgumentNotBelowTarget}
 use Rattle.model.specs.Table.{Row, row_at, row_start, row_numbered, arg_count_at, args_at, Whole}
 use Rattle.model.specs.Check.{all_below, cut, too_many, out_of_range, not_below, repeated, row_ground}
@@ -15,8 +16,6 @@ use Rattle.model.proofs.Choice.{and_true, and_both}
 use Rattle.model.proofs.Lists.{drop_next}
 use Rattle.model.proofs.Rows.{args_length}
 use Rattle.model.proofs.Checked.{not_cut, not_too_many, InRange, not_out_of_range}
-use Rattle.rows.specs.declared.RowStep.{RowStep}
-use Rattle.rows.specs.declared.RowStep.TheVariants.{Fine, Faulty}
 use Rattle.rows.specs.Words.{a_row}
 use Rattle.rows.specs.Walk.{largest, above, out_by, row_fault, row_step, step_ground, form_ground}
 
@@ -105,24 +104,24 @@ module _ (states i s q : ℕ) (xs : List ℕ) (top : ℕ) (e : top ≡ above xs)
   below_at : (f : Bool) → ltb q top ≡ f → not_below (a_row s q xs) ≡ f
   below_at f h = not_below_by s q xs ∙ rw e at h
 
-  pub fault_4 : too_many i (length xs) ≡ false → out_by states s q top ≡ true → Faulty NotInRange ≡ row_fault states i (a_row s q xs)
+  pub fault_4 : too_many i (length xs) ≡ false → out_by states s q top ≡ true → Err NotInRange ≡ row_fault states i (a_row s q xs)
   unfolding row_fault
   fault_4 b d = rw (b, out_at true d)
 
-  pub fault_5 : too_many i (length xs) ≡ false → out_by states s q top ≡ false → q < top → Faulty ArgumentNotBelowTarget ≡ row_fault states i (a_row s q xs)
+  pub fault_5 : too_many i (length xs) ≡ false → out_by states s q top ≡ false → q < top → Err ArgumentNotBelowTarget ≡ row_fault states i (a_row s q xs)
   unfolding row_fault
   fault_5 b d l = rw (b, out_at false d, below_at true (lt-ltb q top l))
 
-  pub fault_none : too_many i (length xs) ≡ false → out_by states s q top ≡ false → top ≤ q → Fine ≡ row_fault states i (a_row s q xs)
+  pub fault_none : too_many i (length xs) ≡ false → out_by states s q top ≡ false → top ≤ q → Ok (tt {0}) ≡ row_fault states i (a_row s q xs)
   unfolding row_fault
   fault_none b d l = rw (b, out_at false d, below_at false (le-ltb q top l))
 
-pub fault_3 : (states i s q : ℕ) (xs : List ℕ) → too_many i (length xs) ≡ true → Faulty TooManyRowsOrArguments ≡ row_fault states i (a_row s q xs)
+pub fault_3 : (states i s q : ℕ) (xs : List ℕ) → too_many i (length xs) ≡ true → Err TooManyRowsOrArguments ≡ row_fault states i (a_row s q xs)
 unfolding row_fault
 fault_3 states i s q xs b = rw b
 
 -- a row that is not cut
-pub whole_step : (states : ℕ) (rows : List ℕ) (i at : ℕ) (xs : List ℕ) (o : RowStep) → cut rows at ≡ false → xs ≡ args_at rows at
+pub whole_step : (states : ℕ) (rows : List ℕ) (i at : ℕ) (xs : List ℕ) (o : Result (Unit {0}) Kind) → cut rows at ≡ false → xs ≡ args_at rows at
     → o ≡ row_fault states i (a_row (get_or rows at 0) (get_or rows (at + 1) 0) xs) → o ≡ row_step states rows i at
 unfolding row_step
 whole_step states rows i at xs o c e h = rw c (rw e at h)
@@ -136,22 +135,22 @@ pub record Stepped (states : ℕ) (rows : List ℕ) (i at : ℕ) : Type 0 where
   pub symbol : get_or rows at 0 < 256
   pub target : get_or rows (at + 1) 0 < states
 
-pub passes : (states i : ℕ) (r : Row) → row_fault states i r ≡ Fine → (i < 1024) × (length r.args ≤ 16) × InRange states r
+pub passes : (states i : ℕ) (r : Row) → row_fault states i r ≡ Ok (tt {0}) → (i < 1024) × (length r.args ≤ 16) × InRange states r
 unfolding row_fault
 passes states i r e = go (too_many i (length r.args)) refl (out_of_range states r) refl (not_below r) e
   where
     go : (b : Bool) → too_many i (length r.args) ≡ b → (d : Bool) → out_of_range states r ≡ d → (f : Bool)
-        → (if b then Faulty TooManyRowsOrArguments else if d then Faulty NotInRange else if f then Faulty ArgumentNotBelowTarget else Fine) ≡ Fine
+        → (if b then Err TooManyRowsOrArguments else if d then Err NotInRange else if f then Err ArgumentNotBelowTarget else Ok (tt {0})) ≡ Ok (tt {0})
         → (i < 1024) × (length r.args ≤ 16) × InRange states r
     go true q d p f h = let z : ◌≡◌ {A = ℕ} 0 1 = cc in absurd (omega arith)
     go false q true p f h = let z : ◌≡◌ {A = ℕ} 0 1 = cc in absurd (omega arith)
     go false q false p f h = let t = not_too_many i (length r.args) q in (t.0, t.1, not_out_of_range states r p)
 
-pub stepped : (states : ℕ) (rows : List ℕ) (i at : ℕ) → row_step states rows i at ≡ Fine → Stepped states rows i at
+pub stepped : (states : ℕ) (rows : List ℕ) (i at : ℕ) → row_step states rows i at ≡ Ok (tt {0}) → Stepped states rows i at
 unfolding row_step
 stepped states rows i at e = go (cut rows at) refl e
   where
-    go : (a : Bool) → cut rows at ≡ a → (if a then Faulty CutRow else row_fault states i (row_at rows at)) ≡ Fine → Stepped states rows i at
+    go : (a : Bool) → cut rows at ≡ a → (if a then Err CutRow else row_fault states i (row_at rows at)) ≡ Ok (tt {0}) → Stepped states rows i at
     go true p h = let z : ◌≡◌ {A = ℕ} 0 1 = cc in absurd (omega arith)
     go false p h =
         let w = not_cut rows at p in
@@ -177,14 +176,14 @@ ground_is states rows i = whole (cut rows (row_start rows i)) refl
   where
     go : (b c d : Bool)
         → (if b then 3 else if c then 4 else if d then 5 else if repeated rows i then 6 else 0)
-        ≡ form_else (step_ground (if b then Faulty TooManyRowsOrArguments else if c then Faulty NotInRange else if d then Faulty ArgumentNotBelowTarget else Fine)) (repeated rows i)
+        ≡ form_else (step_ground (if b then Err TooManyRowsOrArguments else if c then Err NotInRange else if d then Err ArgumentNotBelowTarget else Ok (tt {0}))) (repeated rows i)
     go true c d = refl
     go false true d = refl
     go false false true = refl
     go false false false = refl
 
     whole : (a : Bool) → cut rows (row_start rows i) ≡ a → (if a then 2 else if too_many i (arg_count_at rows (row_start rows i)) then 3 else if out_of_range states (row_numbered rows i) then 4 else if not_below (row_numbered rows i) then 5 else if repeated rows i then 6 else 0)
-        ≡ form_else (step_ground (if a then Faulty CutRow else row_fault states i (row_numbered rows i))) (repeated rows i)
+        ≡ form_else (step_ground (if a then Err CutRow else row_fault states i (row_numbered rows i))) (repeated rows i)
     whole true e = refl
     whole false e =
         rw (args_length rows (row_start rows i) (not_cut rows (row_start rows i) e))

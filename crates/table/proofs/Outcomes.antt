@@ -1,4 +1,5 @@
 -- Laws of the check's outcome, part by part. Assumes nothing.
+use Rattle.std.specs.Prelude.{Result, Ok, Err}
 use Prim.Native.Nat.{ℕ, ◌<◌, ◌≤◌}
 use mathlib.Core.Path.{◌≡◌, sym, ap, subst, ◌∙◌}
 use mathlib.Core.Bool.{Bool}
@@ -20,9 +21,7 @@ use Rattle.rows.specs.Words.{rows_in, row_no, after_in, afters}
 use Rattle.rows.proofs.Words.{rows_long, after_at}
 use Rattle.index.specs.Taken.{AllTaken}
 use Rattle.counts.specs.Chain.{InOrder}
-use Rattle.table.specs.declared.Checked.TheVariants.{Sound, Refuses}
-use Rattle.std.specs.Prelude.{Result}
-use Rattle.std.specs.Prelude.{Ok, Err}
+use Rattle.table.specs.declared.Checked.{Checked}
 use Rattle.table.specs.Checked.{Blank, StatesReady, StatesAnswer, PreparedRows, CheckAnswer}
 
 -- the check from the states on, and from the accepting list on
@@ -68,8 +67,8 @@ module _ (states : ℕ) (rows accepting : List ℕ) where
 
 -- a refusal leaves nothing to say of the arrays
 pub refused_answer : {prepare : Bool} {states : ℕ} {rows accepting words heads first counts sums : List ℕ} (f : Refusal) → refused_by f ≡ check_outcome states rows accepting
-    → CheckAnswer prepare states rows accepting words heads first counts sums (Refuses f)
-refused_answer f h = record { answer = h; passed = λ t n by e. let z : ◌≡◌ {A = ℕ} 0 1 = cc in absurd (omega arith) }
+    → CheckAnswer prepare states rows accepting words heads first counts sums (Err f)
+refused_answer f h = record { answer = h; passed = λ k e. cc }
 
 -- ---- the states
 
@@ -120,12 +119,12 @@ module _ (accepting words : List ℕ) (n : ℕ) {by states : ℕ} {rows heads : 
     from_here = ap (λ (rs : List Row). counts_outcome count_limit (record { states = states; rows = rs; accepting = accepting_states accepting })) x.same ∙ from_states_lem states rows accepting few rows_fine entries_fine
 
     module _ {prepare : Bool} {ys first counts sums : List ℕ} {r : Result ℕ Refusal} (y : StatesAnswer prepare states rows (take n words) accepting ys first counts sums r) where
-      pub total_refused : {words' heads' : List ℕ} (f : Refusal) → r ≡ Err f → CheckAnswer prepare states rows accepting words' heads' first counts sums (Refuses f)
+      pub total_refused : {words' heads' : List ℕ} (f : Refusal) → r ≡ Err f → CheckAnswer prepare states rows accepting words' heads' first counts sums (Err f)
       total_refused f e = refused_answer f (ap outcome (sym e) ∙ y.answer ∙ from_here)
 
       -- the table passes: the part that was lent is what the first n words hold then
-      pub total_passed : (t : ℕ) → r ≡ Ok t → (words' : List ℕ) → words' ≡ ys ++ drop n words → CheckAnswer prepare states rows accepting words' heads first counts sums (Sound t n by)
-      total_passed t e words' is = record { answer = ap outcome (sym e) ∙ y.answer ∙ from_here; passed = λ t' m by' h. other t' m by' h }
+      pub total_passed : (t : ℕ) → r ≡ Ok t → (words' : List ℕ) → words' ≡ ys ++ drop n words → CheckAnswer prepare states rows accepting words' heads first counts sums (Ok (record { total = t; rows = n; by = by }))
+      total_passed t e words' is = record { answer = ap outcome (sym e) ∙ y.answer ∙ from_here; passed = λ k h. other k h }
         where
           long : length ys ≡ n
           long = sym (rows_long rows ys) ∙ ap length y.same ∙ rows_long rows (take n words) ∙ x.long
@@ -140,8 +139,7 @@ module _ (accepting words : List ℕ) (n : ℕ) {by states : ℕ} {rows heads : 
             prepared = rw part (record { index = rw (y.same, y.links) x.index; left = y.counted t e });
           }
 
-          other : (t' m by' : ℕ) → Sound t n by ≡ Sound t' m by' → PreparedRows prepare by' states rows accepting words' heads first counts sums m
-          other t' m by' h =
-              let a : n ≡ m = cc in
-              let b : by ≡ by' = cc in
-              rw (← a, ← b) ready
+          other : (k : Checked) → ◌≡◌ {A = Result Checked Refusal} (Ok (record { total = t; rows = n; by = by })) (Ok k) → PreparedRows prepare k.by states rows accepting words' heads first counts sums k.rows
+          other k h =
+              let z : ◌≡◌ {A = Checked} (record { total = t; rows = n; by = by }) k = cc in
+              subst (λ (k : Checked). PreparedRows prepare k.by states rows accepting words' heads first counts sums k.rows) z ready

@@ -1,14 +1,9 @@
 -- The check in its parts, and what a table that passes leaves for numbering and writing. Assumes nothing: these are definitions.
-use Rattle.std.specs.Prelude.{ℕ, ◌<◌, ◌≤◌, ◌≡◌, Bool, true, List, length, get_or, take, ltb, if◌then◌else◌}
-use Rattle.model.specs.declared.Kind.{Kind}
-use Rattle.std.specs.Prelude.{Result}
+use Rattle.std.specs.Prelude.{ℕ, ◌<◌, ◌≤◌, ◌≡◌, Bool, true, List, length, get_or, take, ltb, Option, Some, None, Result, Ok, Err, if◌then◌else◌}
 use Rattle.model.specs.declared.Refusal.{Refusal}
-use Rattle.std.specs.Prelude.{Ok}
 use Rattle.model.specs.Answers.{Outcome, result, refused, kind_number, refused_by, outcome}
 use Rattle.model.specs.Table.{rows_of, how_many_rows}
 use Rattle.model.specs.Check.{row_ground, accepting_ground, count_limit, counts_outcome, check_outcome}
-use Rattle.std.specs.Prelude.{Option}
-use Rattle.std.specs.Prelude.{Some, None}
 use Rattle.chains.specs.First.{AllFine, FirstAt}
 use Rattle.rows.specs.Words.{rows_in, nexts, afters, held_table, Held}
 use Rattle.rows.specs.Walk.{Room}
@@ -19,9 +14,7 @@ use Rattle.counts.specs.Chain.{InOrder, Chained, Unchained}
 use Rattle.counts.specs.States.{CountRoom}
 use Rattle.counts.specs.Prepared.{UsedCounts, Left}
 use Rattle.table.specs.declared.CheckedRows.{CheckedRows}
-use Rattle.table.specs.declared.CheckedRows.TheVariants.{Passed, Stopped}
 use Rattle.table.specs.declared.Checked.{Checked}
-use Rattle.table.specs.declared.Checked.TheVariants.{Sound, Refuses}
 
 -- no bucket, or no chain, has a row yet
 abbrev pub Empty : List ℕ → Type 0
@@ -39,9 +32,9 @@ pub record RowsReady (states : ℕ) (rows words heads : List ℕ) : Type 0 where
   pub none_in : Empty heads
 
 -- the rows: none is faulty, and the first words hold them; or the first faulty one
-pub record RowsChecked (states : ℕ) (rows words heads : List ℕ) (r : CheckedRows) : Type 0 where
-  pub passed : (n by : ℕ) → r ≡ Passed n by → AllTaken by states rows (take n words) heads n
-  pub stopped : (n : ℕ) (k : Kind) → r ≡ Stopped n k → FirstAt (how_many_rows rows) (row_ground states rows) n (kind_number k)
+pub record RowsChecked (states : ℕ) (rows words heads : List ℕ) (r : Result CheckedRows Refusal) : Type 0 where
+  pub passed : (k : CheckedRows) → r ≡ Ok k → AllTaken k.by states rows (take k.rows words) heads k.rows
+  pub stopped : (f : Refusal) → r ≡ Err f → FirstAt (how_many_rows rows) (row_ground states rows) f.place (kind_number f.kind)
 
 -- the accepting list: no entry is faulty, or the first that is
 pub record EntriesChecked (states : ℕ) (accepting : List ℕ) (r : Option ℕ) : Type 0 where
@@ -83,9 +76,9 @@ pub record StatesAnswer (prepare : Bool) (states : ℕ) (pool words₀ accepting
   pub counted : (t : ℕ) → r ≡ Ok t → StatesCounted prepare states pool accepting words first counts sums
 
 -- what a checked answer says
-abbrev pub told : Checked → Outcome
-told (Sound t n by) = result t
-told (Refuses r) = refused_by r
+abbrev pub told : Result Checked Refusal → Outcome
+told (Ok k) = result k.total
+told (Err f) = refused_by f
 
 -- empty buckets, no chains, counts and marks yet, room for the words of the rows, and a place for each state and each word
 pub record Blank (states : ℕ) (rows words heads first counts marks used sums : List ℕ) : Type 0 where
@@ -113,6 +106,6 @@ pub record PreparedRows (prepare : Bool) (by states : ℕ) (rows accepting words
   pub prepared : Prepared prepare by states rows (take n words) heads accepting first counts sums
 
 -- what the check answers, and what it leaves where the table passes: the first n words hold its rows
-pub record CheckAnswer (prepare : Bool) (states : ℕ) (rows accepting words heads first counts sums : List ℕ) (r : Checked) : Type 0 where
+pub record CheckAnswer (prepare : Bool) (states : ℕ) (rows accepting words heads first counts sums : List ℕ) (r : Result Checked Refusal) : Type 0 where
   pub answer : told r ≡ check_outcome states rows accepting
-  pub passed : (t n by : ℕ) → r ≡ Sound t n by → PreparedRows prepare by states rows accepting words heads first counts sums n
+  pub passed : (k : Checked) → r ≡ Ok k → PreparedRows prepare k.by states rows accepting words heads first counts sums k.rows

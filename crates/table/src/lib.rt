@@ -8,23 +8,22 @@ ghost use Rattle.counts.specs.States.{held, ArgsPlaced};
 ghost use Rattle.index.specs.Hash.{Multiplier};
 ghost use Rattle.table.specs.Checked.{Empty, CrowdReady, RowsReady, RowsChecked, EntriesChecked, total_or11, StatesReady, StatesAnswer, Blank, CheckAnswer};
 
-use chains::wider;
-use index::{Walked, two_at};
+use index::{TakeError, two};
 use model::{Answer, Kind, Refusal, refuse};
-use used::StateFault;
 
-// How many rows there are and the multiplier of their index, or the first faulty row and its ground.
+// How many rows there are, and the multiplier of their index.
 #[derive(Clone, Copy)]
-enum CheckedRows {
-    Passed(usize, u64),
-    Stopped(usize, Kind),
+struct CheckedRows {
+    rows: usize,
+    by: u64,
 }
 
-// What the internal check finds: the total, how many rows there are and the multiplier of their index; or the refusal.
+// What the internal check finds where a table passes: the total, how many rows there are and the multiplier of their index.
 #[derive(Clone, Copy)]
-pub enum Checked {
-    Sound(u64, usize, u64),
-    Refuses(Refusal),
+pub struct Checked {
+    pub total: u64,
+    pub rows: usize,
+    pub by: u64,
 }
 
 // The multiplier with which rows are first indexed.
@@ -35,19 +34,7 @@ const MOST: usize = 8;
 
 // One number more in a digest. Which numbers it gives is of no account for any answer.
 fn digest(h: u64, x: u64) -> u64 {
-    let p = (h ^ x) % 4294967296 * 2654435769 ^ x / 4294967296 * 2246822519;
-    p ^ p / 4294967296
-}
-
-// The entries from a place on, one by one.
-fn digest_rest(start: u64, rows: &[u16], from: usize) -> u64 {
-    let mut h = start;
-    let mut i = from;
-    while i < rows.len() {
-        h = digest(h, wider(rows[i]));
-        i += 1;
-    }
-    h
+    chains::mixed::<2654435769, 2246822519>(h, x)
 }
 
 // A multiplier made from all entries of the rows, an odd one. Rows that share a bucket by one multiplier seldom do by another; there are rows that do
@@ -55,51 +42,56 @@ fn digest_rest(start: u64, rows: &[u16], from: usize) -> u64 {
 fn own_multiplier(rows: &[u16]) -> u64
     ensures { Multiplier result }
 {
-    let mut h: u64 = 0;
-    let mut i: usize = 0;
-    while 3 < rows.len() - i {
-        h = digest(h, two_at(rows, i) + two_at(rows, i + 2) * 4294967296);
-        i += 4;
+    let mut h = 0;
+    let mut left = rows;
+    while let [a, b, c, d, rest @ ..] = left {
+        h = digest(h, two(*a, *b) + two(*c, *d) * 4294967296);
+        left = rest;
     }
-    2147483649 + digest_rest(h, rows, i) % 536870911 * 2
-}
-
-// Empties the buckets.
-fn empty(heads: &mut [u16])
-    ensures { Empty heads.new }
-{
-    let mut i: usize = 0;
-    while i < heads.len() {
-        heads[i] = 0;
-        i += 1;
+    for entry in left {
+        h = digest(h, u64::from(*entry));
     }
+    2147483649 + h % 536870911 * 2
 }
 
 // Takes the rows once more, with empty buckets and the table's own multiplier, however many rows fall into one bucket.
-fn check_crowded(states: u64, rows: &[u16], words: &mut [u64], heads: &mut [u16]) -> CheckedRows
+fn check_crowded(
+    states: u64,
+    rows: &[u16],
+    words: &mut [u64],
+    heads: &mut [u16],
+) -> Result<CheckedRows, Refusal>
     requires { CrowdReady states rows.now words.old heads.old }
     ensures { RowsChecked states rows.now words.new heads.new result }
 {
-    empty(heads);
+    heads.fill(0);
     let by = own_multiplier(rows);
     match index::take_rows(states, rows, by, 2048, words, heads) {
-        Walked::Passed(n) => CheckedRows::Passed(n, by),
-        Walked::Stopped(n, kind) => CheckedRows::Stopped(n, kind),
-        // not reached: no bucket has more than 1,024 rows
-        Walked::Crowded => CheckedRows::Stopped(0, Kind::RepeatedRow),
+        Ok(n) => Ok(CheckedRows { rows: n, by }),
+        Err(TakeError::Refused(refusal)) => Err(refusal),
+        // no bucket has more than 1,024 rows
+        Err(TakeError::Crowded) => unreachable!(),
     }
 }
 
 // Tests the rows in turn by the grounds 2 to 6, and stores their words and their index. Gives how many there are, or the first faulty one. Where a
 // bucket holds too many rows they are indexed once more, with the table's own multiplier.
-fn check_rows(states: u64, rows: &[u16], words: &mut [u64], heads: &mut [u16]) -> CheckedRows
+fn check_rows(
+    states: u64,
+    rows: &[u16],
+    words: &mut [u64],
+    heads: &mut [u16],
+) -> Result<CheckedRows, Refusal>
     requires { RowsReady states rows.now words.old heads.old }
     ensures { RowsChecked states rows.now words.new heads.new result }
 {
     match index::take_rows(states, rows, MULTIPLIER, MOST, words, heads) {
-        Walked::Passed(n) => CheckedRows::Passed(n, MULTIPLIER),
-        Walked::Stopped(n, kind) => CheckedRows::Stopped(n, kind),
-        Walked::Crowded => check_crowded(states, rows, words, heads),
+        Ok(n) => Ok(CheckedRows {
+            rows: n,
+            by: MULTIPLIER,
+        }),
+        Err(TakeError::Refused(refusal)) => Err(refusal),
+        Err(TakeError::Crowded) => check_crowded(states, rows, words, heads),
     }
 }
 
@@ -108,32 +100,24 @@ fn faulty_entry(states: u64, accepting: &[u16]) -> Option<usize>
     requires { states ≤ 256 }
     ensures { EntriesChecked states accepting.now result }
 {
-    let mut seen = [0u8; 256];
-    let mut i: usize = 0;
-    while i < accepting.len() {
-        let q = chains::wide(accepting[i]);
-        if states <= chains::wider(accepting[i]) {
+    let mut seen = [false; 256];
+    for (i, entry) in accepting.iter().enumerate() {
+        let q = usize::from(*entry);
+        if states <= u64::from(*entry) || seen[q] {
             return Some(i);
         }
-        if seen[q] != 0 {
-            return Some(i);
-        }
-        seen[q] = 1;
-        i += 1;
+        seen[q] = true;
     }
     None
 }
 
 // The total; or 11 where it is above the largest number of 64 bits.
+#[tactic(auto, using(crate::proofs::Counting::total_told))]
 fn total_of(accepting: &[u16], counts: &[u64]) -> Answer
     requires { ArgsPlaced counts.now accepting.now }
     ensures { outcome result ≡ total_or11 (sum (map (held counts.now) accepting.now)) }
 {
-    let total = counts::sum_of(accepting, counts);
-    if total.over != 0 {
-        return Err(refuse(Kind::TotalAboveLimit, 0));
-    }
-    Ok(total.count)
+    counts::sum_of(accepting, counts).ok_or(refuse(Kind::TotalAboveLimit, 0))
 }
 
 // The rest of the check, from the states on, where the rows and the accepting list are without fault. Unless it is to prepare for numbering, used
@@ -155,13 +139,11 @@ fn check_states(
         first.new counts.new sums.new result }
 {
     counts::chain_rows(pool, words, first);
-    counts::count_states(states, pool, &*words, &*first, counts, marks, sums);
-    match used::settle(
-        prepare, states, pool, accepting, &*words, &*first, counts, &*marks, used, sums,
-    ) {
-        StateFault::At(q, kind) => Err(refuse(kind, q as u64)),
-        StateFault::Nothing => total_of(accepting, &*counts),
-    }
+    counts::count_states(states, pool, words, first, counts, marks, sums);
+    used::settle(
+        prepare, states, pool, accepting, words, first, counts, marks, used, sums,
+    )?;
+    total_of(accepting, counts)
 }
 
 // The check of a table, which leaves in the lent arrays what writing needs of one that passes, and what numbering needs if it is to prepare for that.
@@ -177,33 +159,33 @@ pub fn check_into(
     marks: &mut [u64],
     used: &mut [u8],
     sums: &mut [u64],
-) -> Checked
+) -> Result<Checked, Refusal>
     requires { Blank states rows.now words.old heads.old first.old counts.old marks.old used.old sums.old }
     ensures { CheckAnswer prepare states rows.now accepting.now words.new heads.new
         first.new counts.new sums.new result }
 {
     if 256 < states {
-        return Checked::Refuses(refuse(Kind::TooManyStates, 0));
+        return Err(refuse(Kind::TooManyStates, 0));
     }
-    match check_rows(states, rows, words, heads) {
-        CheckedRows::Stopped(r, kind) => Checked::Refuses(refuse(kind, r as u64)),
-        CheckedRows::Passed(n, by) => match faulty_entry(states, accepting) {
-            Some(i) => Checked::Refuses(refuse(Kind::AcceptingEntry, i as u64)),
-            None => match check_states(
-                prepare,
-                states as usize,
-                rows,
-                accepting,
-                &mut words[..n],
-                first,
-                counts,
-                marks,
-                used,
-                sums,
-            ) {
-                Err(r) => Checked::Refuses(r),
-                Ok(total) => Checked::Sound(total, n, by),
-            },
-        },
+    let taken = check_rows(states, rows, words, heads)?;
+    if let Some(i) = faulty_entry(states, accepting) {
+        return Err(refuse(Kind::AcceptingEntry, i as u64));
     }
+    let total = check_states(
+        prepare,
+        states as usize,
+        rows,
+        accepting,
+        &mut words[..taken.rows],
+        first,
+        counts,
+        marks,
+        used,
+        sums,
+    )?;
+    Ok(Checked {
+        total,
+        rows: taken.rows,
+        by: taken.by,
+    })
 }

@@ -1,5 +1,5 @@
 -- What the parts of the two operations answer, put together. Assumes nothing.
-use Rattle.std.specs.Prelude.{if◌then◌else◌}
+use Rattle.std.specs.Prelude.{Result, Ok, Err, if◌then◌else◌, Some, None}
 use Prim.Native.Nat.{ℕ, ◌<◌, ◌≤◌}
 use mathlib.Core.Path.{◌≡◌, refl, sym, ap, ◌∙◌}
 use mathlib.Core.Bool.{Bool, true, false}
@@ -14,23 +14,18 @@ use Rattle.model.specs.Names.{how_many_names, names_then}
 use Rattle.model.specs.Term.{Scan, passes, breaks_at}
 use Rattle.model.specs.Tree.{WellFormed}
 use Rattle.model.specs.TermOperations.{entries_of, bytes_of, fits_in, read_fits, read_named, symbol_ground, write_fits, write_formed, write_named, read_term_outcome, write_term_outcome, read_term_list, write_term_list}
-use Rattle.std.specs.Prelude.{Result}
+use Rattle.std.specs.Prelude.{Result, Ok, Err}
 use Rattle.model.specs.declared.Refusal.{Refusal}
 use Rattle.model.proofs.Choice.{no_fault, fault_refused, is_false}
 use Rattle.tree.specs.Reading.{Decides}
 use Rattle.tree.proofs.Laws.{list_refused, list_taken}
-use Rattle.tree.specs.declared.Form.{Form}
-use Rattle.tree.specs.declared.Form.TheVariants.{Refuses, Tree as FormTree}
 use Rattle.chains.specs.First.{first_with}
-use Rattle.std.specs.Prelude.{Some, None}
 use Rattle.chains.proofs.First.{first_is, first_none, apart}
 use Rattle.scan.specs.TextState.{place_of}
 use Rattle.term.specs.Emit.{entries_text}
 use Rattle.term.specs.Pass.{unlisted_at, Cleared, pass_then, Passed}
 use Rattle.term.specs.Written.{Front, EntriesNamed, Gave, ReadTerm, WriteTerm}
 use Rattle.names.specs.NamesIndex.{NamesAnswer}
-use Rattle.names.specs.declared.NamesCheck.{NamesCheck}
-use Rattle.names.specs.declared.NamesCheck.TheVariants.{Sound, Faulty}
 use Rattle.term.specs.declared.Pass.{Pass}
 use Rattle.term.specs.declared.Pass.TheVariants.{Breaks, Unlisted, Taken}
 use Rattle.term.proofs.EntriesText.{entries_text_lem}
@@ -105,11 +100,11 @@ pub text_too_long : (names text : List ℕ) (room : ℕ) → 65536 < length text
 text_too_long names text room l = rw (lt-ltb 65536 (length text) l)
 
 -- 17
-module _ {seed : ℕ} {names starts heads next : List ℕ} {r : NamesCheck} (x : NamesAnswer seed names starts heads next r) where
-  pub faulty_names : (k : ℕ) (o : Outcome) → r ≡ Faulty k → refused 17 k ≡ names_then names o
+module _ {seed : ℕ} {names starts heads next : List ℕ} {r : Result ℕ Refusal} (x : NamesAnswer seed names starts heads next r) where
+  pub faulty_names : (k : Refusal) (o : Outcome) → r ≡ Err k → refused_by k ≡ names_then names o
   faulty_names k o e = rw e at (x.decided o)
 
-  pub sound_names : (n : ℕ) (o : Outcome) → r ≡ Sound n → o ≡ names_then names o
+  pub sound_names : (n : ℕ) (o : Outcome) → r ≡ Ok n → o ≡ names_then names o
   sound_names n o e = rw e at (x.decided o)
 
 -- the whole
@@ -158,11 +153,11 @@ module _ (names tree : List ℕ) (n room : ℕ) (c : n ≡ how_many_names names)
   named_low f e = record { few = f; named = λ i l. ltb-false n (get_or tree i 0) (none_unnamed e i l) }
 
 -- 12 and 13
-module _ {tree : List ℕ} {f : Form} (x : Decides tree f) (names : List ℕ) (room : ℕ) where
-  pub not_a_tree : (r : Refusal) → f ≡ Refuses r → refused_by r ≡ write_named names tree room
+module _ {tree : List ℕ} {f : Result (Unit {0}) Refusal} (x : Decides tree f) (names : List ℕ) (room : ℕ) where
+  pub not_a_tree : (r : Refusal) → f ≡ Err r → refused_by r ≡ write_named names tree room
   not_a_tree r e = list_refused x r e (write_formed names tree room)
 
-  pub a_tree : f ≡ FormTree → write_formed names tree room ≡ write_named names tree room
+  pub a_tree : f ≡ Ok tt → write_formed names tree room ≡ write_named names tree room
   a_tree e = list_taken x e (write_formed names tree room)
 
 pub write_by : (names tree : List ℕ) (room : ℕ) → names_then names (write_named names tree room) ≡ write_term_outcome names tree room

@@ -12,12 +12,11 @@ ghost use Rattle.term.specs.Emit.{entry_text, closing, mark_after, entries_text}
 ghost use Rattle.term.specs.Written.{Put, Copied, Front, EntriesNamed, Gave, ReadBy, WriteBy, ReadTerm, WriteTerm};
 ghost use Rattle.term.specs.Pass.{Closing, Follows, unlisted_at, SymbolPut, Cleared, Passed};
 
-use chains::wide;
 use model::{Answer, Kind, refuse};
-use names::{NamesCheck, check_names, find_name, list_seed, name_at, stretch_at};
+use names::{check_names, find_name, list_seed, name_at, stretch_at};
 use scan::scan_text;
-use tree::{Form, check_tree};
-use words::{four_at, put_four, put_word, word_at};
+use tree::check_tree;
+use words::{put_word, word_at};
 
 // What follows a name: another name is due at a place, with so many brackets open, after so many bars; the text ends, after so many bars; or it
 // stops being a term at a place.
@@ -158,13 +157,6 @@ fn read_text(
     }
 }
 
-// A kept entry as an entry of the lent list.
-fn entry_of(x: u8) -> u16
-    ensures { result ≡ x }
-{
-    x as u16
-}
-
 // Puts the first entries, so many, at the front of the list.
 fn put_front(entries: &[u8; 4096], count: usize, tree: &mut [u16])
     requires { (length entries.now ≡ 4096) × (count ≤ 4096) × (count ≤ length tree.old) }
@@ -172,7 +164,7 @@ fn put_front(entries: &[u8; 4096], count: usize, tree: &mut [u16])
 {
     let mut i: usize = 0;
     while i < count {
-        tree[i] = entry_of(entries[i]);
+        tree[i] = u16::from(entries[i]);
         i += 1;
     }
 }
@@ -226,10 +218,8 @@ pub fn read_term(names: &[u8], text: &[u8], tree: &mut [u16]) -> Answer
     let mut heads = [0u16; 512];
     let mut next = [0u16; 256];
     let seed = list_seed(names);
-    match check_names(names, seed, &mut starts, &mut heads, &mut next) {
-        NamesCheck::Faulty(line) => Err(refuse(Kind::FaultyNames, line as u64)),
-        NamesCheck::Sound(n) => read_named(names, seed, &starts, &heads, &next, n, text, tree),
-    }
+    let n = check_names(names, seed, &mut starts, &mut heads, &mut next)?;
+    read_named(names, seed, &starts, &heads, &next, n, text, tree)
 }
 
 // The first entry that is a symbol above the count of names.
@@ -238,7 +228,7 @@ fn first_unnamed(tree: &[u16], n: usize) -> Option<usize>
 {
     let mut i: usize = 0;
     while i < tree.len() {
-        if n < wide(tree[i]) {
+        if n < usize::from(tree[i]) {
             return Some(i);
         }
         i += 1;
@@ -263,7 +253,7 @@ fn line_before(e: u16) -> usize
     if e == 0 {
         return 0;
     }
-    wide(e) - 1
+    usize::from(e) - 1
 }
 
 // 1 for a bar after a bar: it gives `)`.
@@ -287,7 +277,7 @@ fn first_length(names: &[u8], starts: &[u16; 256], n: usize, e: u16) -> usize
     if e == 0 {
         return 0;
     }
-    name_at(names, starts, n, wide(e) - 1).len()
+    name_at(names, starts, n, usize::from(e) - 1).len()
 }
 
 // How many bytes an entry gives after another one. A line has one byte more than its name, where the text has the separator.
@@ -296,7 +286,8 @@ fn entry_length(names: &[u8], starts: &[u16; 256], n: usize, before: u16, e: u16
     requires e_le_n { e ≤ n }
     ensures { (result ≡ length (entry_text names.now (mark_after before) e)) × (result ≤ 25) }
 {
-    wide(starts[wide(e)]) - wide(starts[line_before(e)]) + closing_length(before, e)
+    usize::from(starts[usize::from(e)]) - usize::from(starts[line_before(e)])
+        + closing_length(before, e)
 }
 
 // How many bytes the tree's term has.
@@ -335,8 +326,8 @@ fn put_fours(text: &mut [u8], at: usize, bytes: &[u8])
     ensures { Copied (length bytes.now) text.old text.new at bytes.now }
 {
     let last = bytes.len() - 4;
-    put_four(&mut *text, at, four_at(bytes, 0));
-    put_four(text, at + last, four_at(bytes, last));
+    put_word::<4>(&mut *text, at, word_at::<4>(bytes, 0));
+    put_word::<4>(text, at + last, word_at::<4>(bytes, last));
 }
 
 // Puts eight bytes or more by words; the last eight may overlap the word before them.
@@ -347,10 +338,10 @@ fn put_long(text: &mut [u8], at: usize, bytes: &[u8])
     let last = bytes.len() - 8;
     let mut i: usize = 0;
     while i < last {
-        put_word(&mut *text, at + i, word_at(bytes, i));
+        put_word::<8>(&mut *text, at + i, word_at::<8>(bytes, i));
         i += 8;
     }
-    put_word(text, at + last, word_at(bytes, last));
+    put_word::<8>(text, at + last, word_at::<8>(bytes, last));
 }
 
 // Puts the bytes at a place; gives the place after them.
@@ -393,7 +384,7 @@ fn put_entry_text(
         }
         return at;
     }
-    let name = name_at(names, starts, n, wide(e) - 1);
+    let name = name_at(names, starts, n, usize::from(e) - 1);
     if mark == 0 {
         return put_bytes(text, at, name);
     }
@@ -465,10 +456,8 @@ fn write_named(names: &[u8], starts: &[u16; 256], n: usize, tree: &[u16], text: 
     requires n_value { n ≡ how_many_names names.now }
     ensures { WriteBy write_named names.now tree.now text.old text.new result }
 {
-    match check_tree(tree) {
-        Form::Refuses(r) => Err(r),
-        Form::Tree => write_formed(names, starts, n, tree, text),
-    }
+    check_tree(tree)?;
+    write_formed(names, starts, n, tree, text)
 }
 
 // Writes a tree as a term: gives the count of bytes, which then stand at the front of the list.
@@ -479,8 +468,6 @@ pub fn write_term(names: &[u8], tree: &[u16], text: &mut [u8]) -> Answer
     let mut heads = [0u16; 512];
     let mut next = [0u16; 256];
     let seed = list_seed(names);
-    match check_names(names, seed, &mut starts, &mut heads, &mut next) {
-        NamesCheck::Faulty(line) => Err(refuse(Kind::FaultyNames, line as u64)),
-        NamesCheck::Sound(n) => write_named(names, &starts, n, tree, text),
-    }
+    let n = check_names(names, seed, &mut starts, &mut heads, &mut next)?;
+    write_named(names, &starts, n, tree, text)
 }

@@ -1,11 +1,12 @@
 -- The row is looked for among those before it, and entered where it is not found.
+use Rattle.std.proofs.Common.{sym, ◌∙◌}
 use native.Mathlib.Omega.{arith}
 use Rattle.index.proofs.OneMore.{enter_repeats, enter_enters}
 use Rattle.index.proofs.enter_row.Goals as goal
 
-pub returns-in-At : goal.returns-in-At
-returns-in-At c = enter_repeats c.requires _ (omega (arith, c.wider.ensures)) c.seek.ensures _ c.in-At.is
+pub returns-then-is_some : goal.returns-then-is_some
+returns-then-is_some c = enter_repeats c.requires _ (omega (arith, c.from.ensures)) c.seek.ensures c.in_ok-seek.field-0 c.in_ok-seek.was (sym c.is_some.ensures ∙ c.if-is_some.true)
 
-pub returns-in-Nothing : goal.returns-in-Nothing
-returns-in-Nothing c =
-    enter_enters c.requires _ (omega (arith, c.wider.ensures)) c.seek.ensures c.in-Nothing.is _ c.hash-b.ensures.1 c.hash-b.ensures.0 _ c.word.ensures
+pub returns : goal.returns
+returns c =
+    enter_enters c.requires _ (omega (arith, c.from.ensures)) c.seek.ensures c.in_ok-seek.field-0 c.in_ok-seek.was (sym c.is_some.ensures ∙ c.if-is_some.false) _ c.hash-b.ensures.1 c.hash-b.ensures.0 _ c.word.ensures

@@ -1,12 +1,13 @@
 use native.Mathlib.Omega.{arith}
 use Rattle.index.proofs.Laws.{too_long, too_high, index_words}
+use Rattle.index.proofs.find_row.Goals.{then-args-gt16-via-then-args-gt16, then-args-gt16-via-else-args-gt16+then-symbol-gt255}
 use Rattle.index.proofs.find_row.Goals as goal
 
 pub returns-then-args-gt16 : goal.returns-then-args-gt16
-returns-then-args-gt16 c = too_long _ _ c.requires.held _ _ c.if-args-gt16.true
-
-pub returns-then-symbol-gt255 : goal.returns-then-symbol-gt255
-returns-then-symbol-gt255 c = too_high _ _ c.requires.held _ _ c.if-symbol-gt255.true
+returns-then-args-gt16 c = elim c.then-args-gt16.branch [
+  | then-args-gt16-via-then-args-gt16 w ↦ too_long _ _ c.requires.held _ _ w.if-args-gt16.true
+  | then-args-gt16-via-else-args-gt16+then-symbol-gt255 w ↦ too_high _ _ c.requires.held _ _ w.if-symbol-gt255.true
+]
 
 pub seek-requires : goal.seek-requires
 seek-requires c =
@@ -16,5 +17,5 @@ seek-requires c =
       index = index_words c.args.pool.now c.args.words.now c.requires.index;
       inside = c.hash-b.ensures.1;
       bucket = c.hash-b.ensures.0;
-      counts = omega (arith, c.wider.ensures, c.if-symbol-gt255.false);
+      counts = omega (arith, c.from.ensures, c.if-symbol-gt255.false);
     }

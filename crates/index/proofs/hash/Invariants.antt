@@ -1,12 +1,10 @@
--- The arguments from i on are taken into the hash as all are.
-use Prim.Native.Nat.{◌≤◌, ◌<◌, ◌-◌}
-use mathlib.Core.Path.{◌≡◌}
-use lib.ListN.{length, drop}
+-- The arguments that are left are taken into the hash as all are.
+use Rattle.std.proofs.Common.{◌≡◌, ◌<◌, length}
 use Rattle.index.specs.Hash.{fours, mix_all}
 use Rattle.index.proofs.hash.Given as goal
 
-abbrev pub invariant-loop-i : goal.invariant-loop-i
-invariant-loop-i l = (l.i ≤ length l.args) × (l.h < 4294967296) × (mix_all l.by l.h (fours (drop l.i l.args)) ≡ mix_all l.by l.key (fours l.args))
+abbrev pub invariant-loop-left : goal.invariant-loop-left
+invariant-loop-left l = (l.h < 4294967296) × (mix_all l.by l.h (fours l.left) ≡ mix_all l.by l.key (fours l.args))
 
-abbrev pub decreases-loop-i : goal.decreases-loop-i
-decreases-loop-i l = length l.args - l.i
+abbrev pub decreases-loop-left : goal.decreases-loop-left
+decreases-loop-left l = length l.left

@@ -1,12 +1,24 @@
-use mathlib.Core.Path.{sym, ◌∙◌}
-use native.Mathlib.Omega.{arith}
-use Rattle.index.proofs.Hashing.{rest_one, rest_two}
+use Rattle.std.proofs.Common.{◌∙◌}
+use Rattle.index.proofs.Hashing.{rest_none, rest_one, rest_two, rest_three}
 use Rattle.index.proofs.mix_rest.Goals as goal
 
-pub returns-then-args-from-lt2 : goal.returns-then-args-from-lt2
-returns-then-args-from-lt2 c =
-    (c.mix_last.ensures.0 ∙ sym (rest_one c.args.by c.args.start c.args.args.now c.args.from c.if-args-from-lt2.true), c.mix_last.ensures.1)
+pub returns-in-empty : goal.returns-in-empty
+returns-in-empty c = (rest_none _ _ _ c.in-empty.len_below, c.requires.1)
 
-pub returns : goal.returns
-returns c =
-    ((rw (c.mixed.ensures.0, c.two_at.ensures.0) at c.mix_last-2.ensures.0) ∙ sym (rest_two c.args.by c.args.start c.args.args.now c.args.from c.if-args-from-lt2.false (omega (arith, c.requires.3))), c.mix_last-2.ensures.1)
+pub returns-in-len1 : goal.returns-in-len1
+returns-in-len1 c =
+    let a = c.args in
+    ((rw c.from.ensures at c.mixed.ensures.0) ∙ rest_one a.by a.start a.args.now c.in-len1.len_at_least c.in-len1.len_below, c.mixed.ensures.1)
+
+pub returns-in-len2 : goal.returns-in-len2
+returns-in-len2 c =
+    let a = c.args in
+    ((rw c.two.ensures.0 at c.mixed-in-len2.ensures.0) ∙ rest_two a.by a.start a.args.now c.in-len2.len_at_least c.in-len2.len_below, c.mixed-in-len2.ensures.1)
+
+pub returns-in-len3-up : goal.returns-in-len3-up
+returns-in-len3-up c =
+    let a = c.args in (
+      (rw (c.mixed-in-len3-up.ensures.0, c.two-in-len3-up.ensures.0, c.from-in-len3-up.ensures) at c.mixed-in-len3-up-2.ensures.0)
+          ∙ rest_three a.by a.start a.args.now c.in-len3-up.len_at_least c.requires.2,
+      c.mixed-in-len3-up-2.ensures.1,
+    )

@@ -17,7 +17,7 @@ begins {pool} {words} {heads} {args} {n} {b} {key} s =
     walk_begins _ _ _ (row_bucket_lem (row_held pool words) s.by (length heads) key args b s.bucket s.counts) s.index.chains s.inside
 
 pub loop-p-init : goal.loop-p-init
-loop-p-init c = (omega (arith, c.wide-p.ensures, (begins c.requires).within), λ s. rw c.wide-p.ensures (begins s))
+loop-p-init c = (omega (arith, c.from-p.ensures, (begins c.requires).within), λ s. rw c.from-p.ensures (begins s))
 
 pub returns-then-row_is : goal.returns-then-row_is
 returns-then-row_is c =

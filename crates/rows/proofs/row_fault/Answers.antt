@@ -13,12 +13,12 @@ returns-then-is_out c =
     let a = c.args in
     fault_4 a.states a.i a.symbol a.target a.args.now _ c.above_all-top.ensures (sym c.is_too_many.ensures ∙ c.if-is_too_many.false) (sym c.is_out.ensures ∙ c.if-is_out.true)
 
-pub returns-then-wider-top : goal.returns-then-wider-top
-returns-then-wider-top c =
+pub returns-then-from-top : goal.returns-then-from-top
+returns-then-from-top c =
     let a = c.args in
-    fault_5 a.states a.i a.symbol a.target a.args.now _ c.above_all-top.ensures (sym c.is_too_many.ensures ∙ c.if-is_too_many.false) (sym c.is_out.ensures ∙ c.if-is_out.false) (rw c.wider.ensures at c.if-wider-top.true)
+    fault_5 a.states a.i a.symbol a.target a.args.now _ c.above_all-top.ensures (sym c.is_too_many.ensures ∙ c.if-is_too_many.false) (sym c.is_out.ensures ∙ c.if-is_out.false) (rw c.from.ensures at c.if-from-top.true)
 
 pub returns : goal.returns
 returns c =
     let a = c.args in
-    fault_none a.states a.i a.symbol a.target a.args.now _ c.above_all-top.ensures (sym c.is_too_many.ensures ∙ c.if-is_too_many.false) (sym c.is_out.ensures ∙ c.if-is_out.false) (rw c.wider.ensures at c.if-wider-top.false)
+    fault_none a.states a.i a.symbol a.target a.args.now _ c.above_all-top.ensures (sym c.is_too_many.ensures ∙ c.if-is_too_many.false) (sym c.is_out.ensures ∙ c.if-is_out.false) (rw c.from.ensures at c.if-from-top.false)

@@ -1,20 +1,19 @@
 -- The entries passed are without fault, and the states that they name are marked.
-use Prim.Native.Nat.{ℕ}
-use native.Mathlib.Omega.{arith}
+use Rattle.std.proofs.Common.{Bool, false, arith}
 use lib.ListN.{length-replicate, get_or-replicate}
 use Rattle.table.proofs.Entries.{seeing_begins, no_state, seen_before, seeing_goes}
+use Rattle.table.proofs.faulty_entry.Goals.{then-states-from-via-then-states-from, then-states-from-via-else-states-from+then-seen-q}
 use Rattle.table.proofs.faulty_entry.Goals as goal
 
 pub loop-i-init : goal.loop-i-init
-loop-i-init c = seeing_begins _ _ _ (length-replicate {A = ℕ} 256 0) (λ q lt. get_or-replicate {A = ℕ} 256 q 0 0 lt)
+loop-i-init c = seeing_begins _ _ _ (length-replicate {A = Bool} 256 false) (λ q lt. get_or-replicate {A = Bool} 256 q false false lt)
 
-pub returns-then-states-wider : goal.returns-then-states-wider
-returns-then-states-wider c = no_state c.loop-i.invariant c.requires c.loop-i-test.true _ c.wide-q.ensures (omega (arith, c.wide-q.ensures, c.wider.ensures))
-
-pub returns-then-seen-q-ne0 : goal.returns-then-seen-q-ne0
-returns-then-seen-q-ne0 c =
-    seen_before c.loop-i.invariant c.requires c.loop-i-test.true _ c.wide-q.ensures (omega (arith, c.wide-q.ensures, c.wider.ensures)) c.if-seen-q-ne0.true
+pub returns-then-states-from : goal.returns-then-states-from
+returns-then-states-from c = elim c.then-states-from.branch [
+  | then-states-from-via-then-states-from w ↦ no_state c.loop-i.invariant c.requires c.loop-i-test.true _ c.from-q.ensures (omega (arith, c.from-q.ensures, c.from.ensures, w.if-states-from.true))
+  | then-states-from-via-else-states-from+then-seen-q w ↦ seen_before c.loop-i.invariant c.requires c.loop-i-test.true _ c.from-q.ensures (omega (arith, c.from-q.ensures, c.from.ensures, w.if-states-from.false)) w.if-seen-q.true
+]
 
 pub loop-i-preserved : goal.loop-i-preserved
 loop-i-preserved c =
-    seeing_goes c.loop-i.invariant c.requires c.loop-i-test.true _ c.wide-q.ensures (omega (arith, c.wide-q.ensures, c.wider.ensures)) c.if-seen-q-ne0.false
+    seeing_goes c.loop-i.invariant c.requires c.loop-i-test.true _ c.from-q.ensures (omega (arith, c.from-q.ensures, c.from.ensures, c.if-states-from.false)) c.if-seen-q.false

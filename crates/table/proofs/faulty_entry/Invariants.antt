@@ -1,11 +1,6 @@
 -- The entries passed are without fault, and the states that they name are marked.
-use Prim.Native.Nat.{◌-◌}
-use lib.ListN.{length}
 use Rattle.table.proofs.Entries.{Seeing}
 use Rattle.table.proofs.faulty_entry.Given as goal
 
 abbrev pub invariant-loop-i : goal.invariant-loop-i
 invariant-loop-i l = Seeing l.states l.accepting l.seen l.i
-
-abbrev pub decreases-loop-i : goal.decreases-loop-i
-decreases-loop-i l = length l.accepting - l.i

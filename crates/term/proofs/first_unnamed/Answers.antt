@@ -15,9 +15,9 @@ above tree n k = ltb n (get_or tree k 0)
 pub loop-i-init : goal.loop-i-init
 loop-i-init c = (omega arith, none_first (above c.args.tree.now c.args.n) 0 (λ k l. absurd (omega arith)))
 
-pub returns-then-n-wide : goal.returns-then-n-wide
-returns-then-n-wide c = let p = above c.args.tree.now c.args.n in
-    sym (first_at p _ c.loop-i.i c.loop-i-test.true (lt-ltb c.args.n (get_or c.args.tree.now c.loop-i.i 0) (omega (arith, c.wide.ensures, c.if-n-wide.true))) (first_none p c.loop-i.i c.loop-i.invariant.1))
+pub returns-then-n-from : goal.returns-then-n-from
+returns-then-n-from c = let p = above c.args.tree.now c.args.n in
+    sym (first_at p _ c.loop-i.i c.loop-i-test.true (lt-ltb c.args.n (get_or c.args.tree.now c.loop-i.i 0) (omega (arith, c.from.ensures, c.if-n-from.true))) (first_none p c.loop-i.i c.loop-i.invariant.1))
 
 pub loop-i-preserved : goal.loop-i-preserved
-loop-i-preserved c = (omega arith, first_more (above c.args.tree.now c.args.n) c.loop-i.i c.loop-i.invariant.1 (le-ltb c.args.n (get_or c.args.tree.now c.loop-i.i 0) (omega (arith, c.wide.ensures, c.if-n-wide.false))))
+loop-i-preserved c = (omega arith, first_more (above c.args.tree.now c.args.n) c.loop-i.i c.loop-i.invariant.1 (le-ltb c.args.n (get_or c.args.tree.now c.loop-i.i 0) (omega (arith, c.from.ensures, c.if-n-from.false))))
