@@ -401,7 +401,7 @@ mod tests {
         let alloc = rt.alloc();
         let checked = printed(
             alloc,
-            b"1 1 3 1 0 0 1 0\n1 1 99999 1 1 3 1 0 0 1 0\n2 1 3 1 0 0 1 0 1 1",
+            b"1 1 3 1 0 0 1 0\n1 1 99999 1 1 3 1 0 0 1 0\n3 1 3 1 0 0 1 0 0 2 9 9",
         )?;
         assert_eq!(rt;
             checked.as_slice(),
