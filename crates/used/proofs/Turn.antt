@@ -19,7 +19,7 @@ use Rattle.rows.specs.Words.{after_in, args_in, rows_in, row_no, afters, Inside,
 use Rattle.counts.specs.Chain.{target, leads, TargetLink, Chained}
 use Rattle.counts.specs.States.{held}
 use Rattle.counts.proofs.Chain.{leads_row, leads_end}
-use Rattle.used.specs.Marked.{is_set, Placed, ArgsSome, RowPlaced, MarkedToo, row_names, named_row, named_for, AllMarked, PassedBy, TurnReady, Turned}
+use Rattle.used.specs.Marked.{is_set, Placed, RowPlaced, MarkedToo, row_names, named_row, named_for, AllMarked, PassedBy, TurnReady, Turned}
 use Rattle.used.proofs.Marks.{same_test, or_none, or_assoc, marked_stays}
 use Rattle.used.proofs.Walk.{AtRow, at_link, leads_within, row_here, args_here, link_next, link_further}
 
@@ -148,8 +148,8 @@ module _ (rows : List Row) (cs : List ℕ) (q : ℕ) where
 
 -- ---- as the code has it
 
-module _ {full : Bool} {pool words first cs old : List ℕ} {low q : ℕ} (held_rows : Held pool words (length words))
-    (chained : Chained (rows_in pool words) first (afters words)) (g : TurnReady full (rows_in pool words) first cs old low q) where
+module _ {pool words first cs old : List ℕ} {low q : ℕ} (held_rows : Held pool words (length words))
+    (chained : Chained (rows_in pool words) first (afters words)) (g : TurnReady (rows_in pool words) first cs old low q) where
   abbrev rows : List Row
   rows = rows_in pool words
 
@@ -177,14 +177,11 @@ module _ {full : Bool} {pool words first cs old : List ℕ} {low q : ℕ} (held_
         placed : Placed q args
         placed = rw same (g.lower (p - 1) (x.at_row.inside pos) (x.at_row.mine pos))
 
-        pub row_placed : RowPlaced args cs used × ArgsSome full cs args
-        row_placed = (
-          record {
-            counted = record { placed = λ k l. omega (arith, placed.placed k l, g.passed.counted) };
-            marked = record { placed = λ k l. omega (arith, placed.placed k l, g.passed.room, x.marked.long) };
-          },
-          record { some = λ e k l. g.whole.some e (get_or args k 0) (placed.placed k l) },
-        )
+        pub row_placed : RowPlaced args cs used
+        row_placed = record {
+          counted = record { placed = λ k l. omega (arith, placed.placed k l, g.passed.counted) };
+          marked = record { placed = λ k l. omega (arith, placed.placed k l, g.passed.room, x.marked.long) };
+        }
 
         module _ (used' : List ℕ) (m : MarkedToo (row_names cs args) used used') where
           pub look_ready : PassedBy cs used' n q

@@ -23,12 +23,8 @@ pub record RowPlaced (xs cs used : List ℕ) : Type 0 where
   pub marked : Placed (length used) xs
 
 -- where this is so, every state has trees
-pub record NoneEmpty (full : Bool) (states : ℕ) (cs : List ℕ) : Type 0 where
-  pub some : full ≡ true → (a : ℕ) → a < states → 0 < held cs a
-
--- where this is so, every argument has trees
-pub record ArgsSome (full : Bool) (cs args : List ℕ) : Type 0 where
-  pub some : full ≡ true → (k : ℕ) → k < length args → 0 < held cs (get_or args k 0)
+pub record NoneEmpty (full : Bool) (cs : List ℕ) : Type 0 where
+  pub some : full ≡ true → (a : ℕ) → a < length cs → 0 < held cs a
 
 -- beside what was marked, the states with a property are marked
 pub record MarkedToo (p : ℕ → Bool) (old new : List ℕ) : Type 0 where
@@ -62,8 +58,7 @@ pub record PassedBy (cs used : List ℕ) (n m : ℕ) : Type 0 where
   pub room : m ≤ length used
 
 -- what the rows of one state are taken from, beside the chains: they have lower arguments
-pub record TurnReady (full : Bool) (rows : List Row) (first cs used : List ℕ) (n q : ℕ) : Type 0 where
-  pub whole : NoneEmpty full q cs
+pub record TurnReady (rows : List Row) (first cs used : List ℕ) (n q : ℕ) : Type 0 where
   pub lower : (r : ℕ) → r < length rows → target rows r ≡ q → Placed q (row_no rows r).args
   pub state : q < length first
   pub passed : PassedBy cs used n q

@@ -2,11 +2,12 @@
 #![tactic(auto)]
 
 ghost use Rattle.std.specs.Prelude.{◌≡◌, ◌<◌, ◌≤◌, true, map, length, ltb};
+ghost use Rattle.std.proofs.Props.{props};
 ghost use Rattle.model.specs.Count.{product};
 ghost use Rattle.model.specs.Reach.{is_among};
 ghost use Rattle.rows.specs.Words.{rows_in};
 ghost use Rattle.counts.specs.States.{held};
-ghost use Rattle.used.specs.Marked.{Placed, NoneEmpty, ArgsSome, MarkedToo, RowPlaced, row_names, listed_by, AllMarked, PassedBy, TurnReady, Turned, PassReady, FoundUsed};
+ghost use Rattle.used.specs.Marked.{Placed, NoneEmpty, MarkedToo, RowPlaced, row_names, listed_by, AllMarked, PassedBy, TurnReady, Turned, PassReady, FoundUsed};
 ghost use Rattle.used.specs.Limits.{BeyondFrom, FaultFrom, FaultReady, FirstUsed};
 ghost use Rattle.used.specs.Settled.{RowsCleared, ClearReady, Cleared, SettleReady, Settled};
 
@@ -16,6 +17,14 @@ use rows::Rows;
 
 // The most entries that a state's longest tree may have.
 const LENGTH_LIMIT: u64 = 4096;
+
+// The counts of the states, and whether every state has trees.
+#[derive(Clone, Copy)]
+struct Counts<'a> {
+    counts: &'a [u64],
+    full: bool,
+    ghost some: { NoneEmpty full counts.now } by { Prim.hlevel props },
+}
 
 // Whether a row with these arguments counts more than 0.
 #[tactic(auto, using(crate::proofs::Marks::pos_goes, crate::proofs::Marks::pos_none, crate::proofs::Marks::pos_ends))]
@@ -32,19 +41,10 @@ fn has_trees(args: &[u16], counts: &[u64]) -> bool
 }
 
 // Whether every state has trees.
-fn none_empty(states: usize, counts: &[u64]) -> bool
-    requires { states ≤ length counts.now }
-    ensures { NoneEmpty result states counts.now }
+fn none_empty(counts: &[u64]) -> bool
+    ensures { NoneEmpty result counts.now }
 {
-    counts[..states].iter().all(|c| *c != 0)
-}
-
-// Whether a row with these arguments counts more than 0; where no state is empty it does.
-fn row_counts(full: bool, args: &[u16], counts: &[u64]) -> bool
-    requires { Placed (length counts.now) args.now × ArgsSome full counts.now args.now }
-    ensures { result ≡ ltb 0 (product (map (held counts.now) args.now)) }
-{
-    full || has_trees(args, counts)
+    counts.iter().all(|c| *c != 0)
 }
 
 // Marks the states of a list.
@@ -54,16 +54,6 @@ fn mark_args(args: &[u16], used: &mut [u8])
 {
     for a in args {
         used[usize::from(*a)] = 1;
-    }
-}
-
-// Marks the arguments of a row, if it counts more than 0.
-fn mark_row(full: bool, args: &[u16], counts: &[u64], used: &mut [u8])
-    requires { RowPlaced args.now counts.now used.old × ArgsSome full counts.now args.now }
-    ensures { MarkedToo (row_names counts.now args.now) used.old used.new }
-{
-    if row_counts(full, args, counts) {
-        mark_args(args, used);
     }
 }
 
@@ -94,35 +84,48 @@ fn pass_marked(counts: &[u64], used: &[u8], low: usize, m: usize) -> usize
     m
 }
 
-// Marks the arguments of the rows of state q that count more than 0, up to the row after which every state below q that has trees is
-// marked.
-fn mark_rows(
-    full: bool,
-    chains: &ByTarget,
-    counts: &[u64],
-    used: &mut [u8],
-    low: usize,
-    q: usize,
-) -> usize
-    requires { TurnReady full (rows_in chains.now.rows.pool.now chains.now.rows.words.now) chains.now.first.now
-        counts.now used.old low q }
-    ensures { Turned (rows_in chains.now.rows.pool.now chains.now.rows.words.now) counts.now q
-        used.old used.new result }
-{
-    let Rows { pool, words } = chains.rows;
-    let mut n = low;
-    let mut p = usize::from(chains.first[q]);
-    while 0 < p {
-        if q <= n {
-            return n;
-        }
-        let word = words[p - 1];
-        let args = rows::args_in(pool, word);
-        mark_row(full, args, counts, used);
-        n = pass_marked(counts, used, n, q);
-        p = rows::after_in(word);
+impl Counts<'_> {
+    // Whether a row with these arguments counts more than 0.
+    fn row_counts(&self, args: &[u16]) -> bool
+        requires { Placed (length self.now.counts.now) args.now }
+        ensures { result ≡ ltb 0 (product (map (held self.now.counts.now) args.now)) }
+    {
+        self.full || has_trees(args, self.counts)
     }
-    n
+
+    // Marks the arguments of a row, if it counts more than 0.
+    fn mark_row(&self, args: &[u16], used: &mut [u8])
+        requires { RowPlaced args.now self.now.counts.now used.old }
+        ensures { MarkedToo (row_names self.now.counts.now args.now) used.old used.new }
+    {
+        if self.row_counts(args) {
+            mark_args(args, used);
+        }
+    }
+
+    // Marks the arguments of the rows of state q that count more than 0, up to the row after which every state below q that has trees is
+    // marked.
+    fn mark_rows(&self, chains: &ByTarget, used: &mut [u8], low: usize, q: usize) -> usize
+        requires { TurnReady (rows_in chains.now.rows.pool.now chains.now.rows.words.now) chains.now.first.now
+            self.now.counts.now used.old low q }
+        ensures { Turned (rows_in chains.now.rows.pool.now chains.now.rows.words.now) self.now.counts.now q
+            used.old used.new result }
+    {
+        let Rows { pool, words } = chains.rows;
+        let mut n = low;
+        let mut p = usize::from(chains.first[q]);
+        while 0 < p {
+            if q <= n {
+                return n;
+            }
+            let word = words[p - 1];
+            let args = rows::args_in(pool, word);
+            self.mark_row(args, used);
+            n = pass_marked(self.counts, used, n, q);
+            p = rows::after_in(word);
+        }
+        n
+    }
 }
 
 // Marks the used states: the listed ones that have trees, and then, from the highest state down, the arguments of the rows of used
@@ -138,15 +141,19 @@ pub fn find_used(
         counts.now used.old }
     ensures { FoundUsed states chains.now.rows.pool.now accepting.now chains.now.rows.words.now used.old used.new }
 {
-    let full = none_empty(states, counts);
-    mark_listed(accepting, counts, used);
-    let mut n = pass_marked(counts, used, 0, states);
+    let each = &counts[..states];
+    let known = Counts {
+        counts: each,
+        full: none_empty(each),
+    };
+    mark_listed(accepting, each, used);
+    let mut n = pass_marked(each, used, 0, states);
     for m in (0..states).rev() {
         if m < n {
             break;
         }
         if used[m] != 0 {
-            n = mark_rows(full, chains, counts, used, n, m);
+            n = known.mark_rows(chains, used, n, m);
         }
     }
 }

@@ -1,6 +1,6 @@
 -- The rows of the state are taken along their chain; where all states below it that have trees are marked, the rows that are left mark
 use Rattle.used.proofs.Turn.{taking_ends, turn_begins, turn_stops, turn_further, row_placed, turn_goes}
-use Rattle.used.proofs.mark_rows.Goals as goal
+use Rattle.used.proofs.Counts.mark_rows.Goals as goal
 
 pub loop-p-init : goal.loop-p-init
 loop-p-init c = turn_begins c.args.chains.now.rows.held c.args.chains.now.chained c.requires _ c.from-p.ensures
