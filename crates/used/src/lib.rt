@@ -26,20 +26,6 @@ struct Counts<'a> {
     ghost some: { NoneEmpty full counts.now } by { Prim.hlevel props },
 }
 
-// Whether a row with these arguments counts more than 0.
-#[tactic(auto, using(crate::proofs::Marks::pos_goes, crate::proofs::Marks::pos_none, crate::proofs::Marks::pos_ends))]
-fn has_trees(args: &[u16], counts: &[u64]) -> bool
-    requires { Placed (length counts.now) args.now }
-    ensures { result ≡ ltb 0 (product (map (held counts.now) args.now)) }
-{
-    for a in args {
-        if counts[usize::from(*a)] == 0 {
-            return false;
-        }
-    }
-    true
-}
-
 // Whether every state has trees.
 fn none_empty(counts: &[u64]) -> bool
     ensures { NoneEmpty result counts.now }
@@ -85,12 +71,21 @@ fn pass_marked(counts: &[u64], used: &[u8], low: usize, m: usize) -> usize
 }
 
 impl Counts<'_> {
-    // Whether a row with these arguments counts more than 0.
+    // Whether a row with these arguments counts more than 0; where every state has trees it does.
+    #[tactic(auto, using(crate::proofs::Marks::pos_goes, crate::proofs::Marks::pos_none, crate::proofs::Marks::pos_ends, crate::proofs::Marks::row_some))]
     fn row_counts(&self, args: &[u16]) -> bool
         requires { Placed (length self.now.counts.now) args.now }
         ensures { result ≡ ltb 0 (product (map (held self.now.counts.now) args.now)) }
     {
-        self.full || has_trees(args, self.counts)
+        if self.full {
+            return true;
+        }
+        for a in args {
+            if self.counts[usize::from(*a)] == 0 {
+                return false;
+            }
+        }
+        true
     }
 
     // Marks the arguments of a row, if it counts more than 0.
