@@ -18,11 +18,10 @@
 // others: 64), a list of more than 66,000, or more than 80,000 numbers, or 80,002 with the short forms written out.
 #![tactic(auto)]
 
-ghost use Rattle.std.specs.Prelude.{◌≡◌};
-ghost use Rattle.cases.specs.Decimal.{grown};
-ghost use Rattle.cases.specs.Lists.{Sound};
+ghost use Rattle.std.specs.Prelude.{◌+◌, ◌*◌, ◌^◌, ◌<◌, length, IfSome, SomeIff};
 
 use model::Answer;
+use std::alloc::Global;
 use std::io;
 use std::io::{BufWriter, Read, Write};
 
@@ -34,519 +33,388 @@ const WHOLE: usize = 80002;
 // The entries of a list.
 const LIST: usize = 66000;
 
-// A place after every line. What is no case ends there.
-const NOWHERE: usize = usize::MAX;
+// The number with which a short form begins.
+const SHORT: u64 = 99999;
 
-// The number at a place of a line, 0 after all.
-fn value_at(numbers: &[u64; WHOLE], at: usize) -> u64 {
-    if at >= WHOLE {
-        return 0;
-    }
-    numbers[at]
-}
-
-fn byte(n: u64) -> u8 {
-    if n > 255 {
-        return 0;
-    }
-    n as u8
-}
-
-// A list of a line. Its entries stand at the front of both arrays; one that does not fit a byte is 0 among the bytes.
-#[derive(Drop)]
-struct List {
-    // the place after it
-    end: usize,
-    count: usize,
-    entries: [u16; LIST],
-    bytes: [u8; LIST],
-}
-
-// What is no list, or does not fit.
-fn none() -> List
-    ensures { Sound result }
+// The list `k x1 .. xk` at the front of the numbers, and the numbers after it. Gives nothing where it is cut or too long, or an entry does not fit.
+fn split_list<T: TryFrom<u64> + Drop>(
+    alloc: Global,
+    numbers: &[u64],
+) -> io::Result<Option<(Vec<T>, &[u64])>>
+where
+    T::Error: Drop,
 {
-    List {
-        end: NOWHERE,
-        count: 0,
-        entries: [0u16; LIST],
-        bytes: [0u8; LIST],
+    let Some((k, after)) = numbers.split_first() else {
+        return Ok(None);
+    };
+    let Some((values, rest)) = after.split_at_checked(*k as usize) else {
+        return Ok(None);
+    };
+    if values.len() > LIST {
+        return Ok(None);
     }
+    let mut list = Vec::with_capacity(alloc, values.len())?;
+    for x in values {
+        let Ok(entry) = T::try_from(*x) else {
+            return Ok(None);
+        };
+        list.push(entry)?;
+    }
+    Ok(Some((list, rest)))
 }
 
-// The list of the numbers from one place to before another, if it is not too long and no entry is above `most`.
-fn list_of(numbers: &[u64; WHOLE], at: usize, end: usize, most: u16) -> List
-    ensures { Sound result }
+// The list that the numbers are, if there are no more.
+fn only_list<T: TryFrom<u64> + Drop>(alloc: Global, numbers: &[u64]) -> io::Result<Option<Vec<T>>>
+where
+    T::Error: Drop,
 {
-    let mut list = none();
-    let mut i: usize = 0;
-    for place in at..end {
-        if i >= LIST {
-            return none();
-        }
-        let x = value_at(numbers, place);
-        if x > most as u64 {
-            return none();
-        }
-        list.entries[i] = x as u16;
-        list.bytes[i] = byte(x);
-        i += 1;
+    match split_list(alloc, numbers)? {
+        Some((list, [])) => Ok(Some(list)),
+        _ => Ok(None),
     }
-    list.count = i;
-    list.end = end;
-    list
 }
 
-// The list `k x1 .. xk` at a place of a line of n numbers, if each entry fits: 16 bits, or 8 if it is a list of bytes.
-fn list_at(numbers: &[u64; WHOLE], n: usize, at: usize, bytes: bool) -> List
-    ensures { Sound result }
-{
-    if at < n {
-        let from = at + 1;
-        let k = value_at(numbers, at) as usize;
-        if k <= n - from {
-            let most = if bytes { 255 } else { 65535 };
-            return list_of(numbers, from, from + k, most);
-        }
-    }
-    none()
-}
-
-// The first n entries.
-fn front(entries: &[u16; LIST], n: usize) -> &[u16] {
-    let all = &entries[..];
-    if n > LIST {
-        return all;
-    }
-    &all[0..n]
-}
-
-fn front_bytes(bytes: &[u8; LIST], n: usize) -> &[u8] {
-    let all = &bytes[..];
-    if n > LIST {
-        return all;
-    }
-    &all[0..n]
-}
-
-fn widened(b: u8) -> u16
-    ensures { result ≡ b }
-{
-    b as u16
-}
-
-// The bytes as entries.
-fn widen(bytes: &[u8; LIST]) -> [u16; LIST] {
-    let mut entries = [0u16; LIST];
-    for i in 0..LIST {
-        entries[i] = widened(bytes[i]);
-    }
-    entries
-}
-
-fn print_entry<W: Write>(out: &mut W, entry: u64) -> io::Result<()> {
-    write!(out, " {entry}")
-}
-
-// An answer of the operation.
-fn say<W: Write>(out: &mut W, operation: u64, answer: Answer) -> io::Result<()> {
+// An answer; `what` is said of a result.
+fn say<W: Write>(out: &mut W, what: &str, answer: Answer) -> io::Result<()> {
     match answer {
-        Ok(n) => {
-            if operation == 1 {
-                out.write_all(b"total")?;
-            } else {
-                out.write_all(b"result")?;
-            }
-            print_entry(out, n)
-        }
+        Ok(n) => write!(out, "{what} {n}"),
         Err(r) => {
-            let kind = r.kind;
-            out.write_all(b"refused")?;
-            print_entry(out, model::kind_number(kind) as u64)?;
-            print_entry(out, r.place)
+            let number = model::kind_number(r.kind);
+            let place = r.place;
+            write!(out, "refused {number} {place}")
         }
     }
 }
 
-// The digest with one entry more, of a list of n. The entry is printed if they are few.
-fn with_entry<W: Write>(out: &mut W, n: usize, digest: u64, x: u16) -> io::Result<u64> {
-    let entry = x as u64;
+// What a lent list holds after the answer: its entries or, if there are many, how many and their digest.
+fn say_list<T: Copy + Into<u16>, W: Write>(out: &mut W, list: &[T]) -> io::Result<()> {
+    let n = list.len();
+    out.write_all(b";")?;
     if n <= 64 {
-        print_entry(out, entry)?;
+        for x in list {
+            let entry: u16 = (*x).into();
+            write!(out, " {entry}")?;
+        }
+        return Ok(());
     }
-    Ok(((digest % 4294967291) * 65599 + entry) % 4294967291)
-}
-
-// The digest of a list. Its entries are printed if they are few.
-fn print_entries<W: Write>(out: &mut W, list: &[u16]) -> io::Result<u64> {
     let mut digest: u64 = 0;
     for x in list {
-        digest = with_entry(out, list.len(), digest, *x)?;
+        let entry: u16 = (*x).into();
+        digest = (digest % 4294967291 * 65599 + u64::from(entry)) % 4294967291;
     }
-    Ok(digest)
+    write!(out, " {n} entries {digest}")
 }
 
-// What a lent list, the first n of these entries, holds after the answer.
-fn say_list<W: Write>(out: &mut W, entries: &[u16; LIST], n: usize) -> io::Result<()> {
-    out.write_all(b";")?;
-    let digest = print_entries(out, front(entries, n))?;
-    if n > 64 {
-        print_entry(out, n as u64)?;
-        out.write_all(b" entries")?;
-        print_entry(out, digest)?;
-    }
-    Ok(())
+// The operations on a table.
+#[derive(Clone, Copy)]
+enum OnTable {
+    Check,
+    Number,
+    Write,
 }
 
-// The place of the list after a table that ends at a place. Operation 3 has a number between them.
-fn third_place(operation: u64, at: usize) -> usize {
-    if operation != 3 {
-        return at;
-    }
-    if at >= WHOLE {
-        return NOWHERE;
-    }
-    at + 1
+// The operations on terms.
+#[derive(Clone, Copy)]
+enum OnTerm {
+    Read,
+    Write,
 }
 
-// The functions from here to `answer_case` give false where the n numbers are no case, and then print nothing.
-
-// Operations 2 and 3, after the table.
-fn answer_tree<W: Write>(
-    out: &mut W,
-    operation: u64,
-    states: u64,
-    rows: &[u16],
-    accepting: &[u16],
-    numbers: &[u64; WHOLE],
-    n: usize,
-    at: usize,
-) -> io::Result<bool> {
-    let third = list_at(numbers, n, third_place(operation, at), false);
-    if third.end != n {
-        return Ok(false);
-    }
-    let l = third.count;
-    let mut x = third.entries;
-    if operation == 2 {
-        say(
-            out,
-            2,
-            operations::number(states, rows, accepting, front(&x, l)),
-        )?;
-        return Ok(true);
-    }
-    let answer = operations::write(states, rows, accepting, value_at(numbers, at), &mut x[0..l]);
-    say(out, 3, answer)?;
-    say_list(out, &x, l)?;
-    Ok(true)
-}
+// The functions from here to `answer_line` give false where the numbers are no case, and then print nothing.
 
 // Operations 1 to 3.
 fn answer_table<W: Write>(
+    alloc: Global,
     out: &mut W,
-    operation: u64,
-    numbers: &[u64; WHOLE],
-    n: usize,
+    operation: OnTable,
+    numbers: &[u64],
 ) -> io::Result<bool> {
-    let states = value_at(numbers, 1);
-    let first = list_at(numbers, n, 2, false);
-    let second = list_at(numbers, n, first.end, false);
-    let rows = front(&first.entries, first.count);
-    let accepting = front(&second.entries, second.count);
-    if operation > 1 {
-        return answer_tree(
-            out, operation, states, rows, accepting, numbers, n, second.end,
-        );
-    }
-    if second.end != n {
+    let Some((states, rest)) = numbers.split_first() else {
         return Ok(false);
+    };
+    let Some((rows, rest)) = split_list::<u16>(alloc, rest)? else {
+        return Ok(false);
+    };
+    let Some((accepting, rest)) = split_list::<u16>(alloc, rest)? else {
+        return Ok(false);
+    };
+    let states = *states;
+    let rows = rows.as_slice();
+    let accepting = accepting.as_slice();
+    match operation {
+        OnTable::Check => {
+            if !rest.is_empty() {
+                return Ok(false);
+            }
+            say(out, "total", operations::check(states, rows, accepting))?;
+        }
+        OnTable::Number => {
+            let Some(tree) = only_list::<u16>(alloc, rest)? else {
+                return Ok(false);
+            };
+            let answer = operations::number(states, rows, accepting, tree.as_slice());
+            say(out, "result", answer)?;
+        }
+        OnTable::Write => {
+            let Some((number, rest)) = rest.split_first() else {
+                return Ok(false);
+            };
+            let Some(mut lent) = only_list::<u16>(alloc, rest)? else {
+                return Ok(false);
+            };
+            let answer = operations::write(states, rows, accepting, *number, lent.as_mut_slice());
+            say(out, "result", answer)?;
+            say_list(out, lent.as_slice())?;
+        }
     }
-    say(out, 1, operations::check(states, rows, accepting))?;
     Ok(true)
 }
 
 // Operations 4 and 5.
 fn answer_term<W: Write>(
+    alloc: Global,
     out: &mut W,
-    operation: u64,
-    numbers: &[u64; WHOLE],
-    n: usize,
+    operation: OnTerm,
+    numbers: &[u64],
 ) -> io::Result<bool> {
-    let first = list_at(numbers, n, 1, true);
-    let second = list_at(numbers, n, first.end, operation == 4);
-    let third = list_at(numbers, n, second.end, operation == 5);
-    if third.end != n {
+    let Some((names, rest)) = split_list::<u8>(alloc, numbers)? else {
         return Ok(false);
+    };
+    let names = names.as_slice();
+    match operation {
+        OnTerm::Read => {
+            let Some((text, rest)) = split_list::<u8>(alloc, rest)? else {
+                return Ok(false);
+            };
+            let Some(mut lent) = only_list::<u16>(alloc, rest)? else {
+                return Ok(false);
+            };
+            let answer = term::read_term(names, text.as_slice(), lent.as_mut_slice());
+            say(out, "result", answer)?;
+            say_list(out, lent.as_slice())?;
+        }
+        OnTerm::Write => {
+            let Some((tree, rest)) = split_list::<u16>(alloc, rest)? else {
+                return Ok(false);
+            };
+            let Some(mut lent) = only_list::<u8>(alloc, rest)? else {
+                return Ok(false);
+            };
+            let answer = term::write_term(names, tree.as_slice(), lent.as_mut_slice());
+            say(out, "result", answer)?;
+            say_list(out, lent.as_slice())?;
+        }
     }
-    let l = third.count;
-    let names = front_bytes(&first.bytes, first.count);
-    if operation == 4 {
-        let text = front_bytes(&second.bytes, second.count);
-        let mut x = third.entries;
-        let answer = term::read_term(names, text, &mut x[0..l]);
-        say(out, 4, answer)?;
-        say_list(out, &x, l)?;
-        return Ok(true);
-    }
-    let tree = front(&second.entries, second.count);
-    let mut x = third.bytes;
-    let answer = term::write_term(names, tree, &mut x[0..l]);
-    say(out, 5, answer)?;
-    say_list(out, &widen(&x), l)?;
     Ok(true)
 }
 
-fn answer_case<W: Write>(out: &mut W, numbers: &[u64; WHOLE], n: usize) -> io::Result<bool> {
-    if n > WHOLE {
-        return Ok(false);
-    }
-    let operation = value_at(numbers, 0);
-    match operation {
-        1 | 2 | 3 => answer_table(out, operation, numbers, n),
-        4 | 5 => answer_term(out, operation, numbers, n),
+// A case, its short forms written out.
+fn answer_case<W: Write>(alloc: Global, out: &mut W, numbers: &[u64]) -> io::Result<bool> {
+    match numbers {
+        [1, rest @ ..] => answer_table(alloc, out, OnTable::Check, rest),
+        [2, rest @ ..] => answer_table(alloc, out, OnTable::Number, rest),
+        [3, rest @ ..] => answer_table(alloc, out, OnTable::Write, rest),
+        [4, rest @ ..] => answer_term(alloc, out, OnTerm::Read, rest),
+        [5, rest @ ..] => answer_term(alloc, out, OnTerm::Write, rest),
         _ => Ok(false),
     }
 }
 
-// What stands at a place of a line: a number, or a short form.
-#[derive(Clone, Copy)]
-struct Run {
-    // how many numbers it stands for: its values in turn, over and over
-    count: u64,
-    // the places of its values, from one to before another
-    from: usize,
-    end: usize,
-}
-
-impl Run {
-    // The place of the value after one, and after the last that of the first.
-    fn after(self, place: usize) -> usize {
-        if place < self.end {
-            if place + 1 < self.end {
-                return place + 1;
-            }
-        }
-        self.from
-    }
-}
-
-// Whether a short form begins at a place.
-fn is_short(line: &[u64; WHOLE], at: usize) -> bool {
-    if at < 2 {
-        return false;
-    }
-    value_at(line, at) == 99999
-}
-
-// Where k numbers from a place on end in a line of n: 0 where there is none, or not each.
-fn end_of(from: usize, k: usize, n: usize) -> usize {
-    if k > 0 {
-        if from <= n {
-            if k <= n - from {
-                return from + k;
-            }
-        }
-    }
-    0
-}
-
-// What stands at a place of a line of n numbers. Its end is 0 where that is nothing.
-fn run_at(line: &[u64; WHOLE], n: usize, at: usize) -> Run {
-    if at >= ROOM {
-        return Run {
-            count: 0,
-            from: 0,
-            end: 0,
-        };
-    }
-    if !is_short(line, at) {
-        return Run {
-            count: 1,
-            from: at,
-            end: at + 1,
-        };
-    }
-    let from = at + 3;
-    let k = value_at(line, at + 2) as usize;
-    Run {
-        count: value_at(line, at + 1),
-        from: from,
-        end: end_of(from, k, n),
-    }
-}
-
-// The numbers of a run after those that are written. How many then are: NOWHERE where there is no room.
-fn write_run(
-    line: &[u64; WHOLE],
-    run: Run,
-    numbers: &mut [u64; WHOLE],
-    mut filled: usize,
-) -> usize {
-    let mut place = run.from;
-    for _ in 0..run.count {
-        if filled >= WHOLE {
-            return NOWHERE;
-        }
-        numbers[filled] = value_at(line, place);
-        place = run.after(place);
-        filled += 1;
-    }
-    filled
-}
-
-// The n numbers of the line, the short forms written out. How many they then are: NOWHERE where they cannot be.
-fn write_out(line: &[u64; WHOLE], n: usize, numbers: &mut [u64; WHOLE]) -> usize {
-    if n > ROOM {
-        return NOWHERE;
-    }
-    let mut at: usize = 0;
-    let mut filled: usize = 0;
-    while at < n {
-        let run = run_at(line, n, at);
-        if run.end <= at {
-            return NOWHERE;
-        }
-        filled = write_run(line, run, numbers, filled);
-        at = run.end;
-    }
-    filled
-}
-
-// Answers a line of n numbers.
-fn answer_line<W: Write>(out: &mut W, line: &[u64; WHOLE], n: usize) -> io::Result<()> {
-    let mut numbers = [0u64; WHOLE];
-    let m = write_out(line, n, &mut numbers);
-    if answer_case(out, &numbers, m)? {
-        out.write_all(b"\n")
-    } else {
-        out.write_all(b"bad line\n")
-    }
-}
-
-// A number with one decimal digit more.
-#[derive(Drop)]
-enum Grown {
-    Fits(u64),
-    TooLarge,
-}
-
-fn grow(value: u64, digit: u64) -> Grown
-    ensures { result ≡ grown value digit }
+// What stands at the front of a line: how many numbers it stands for, their values, which come in turn over and over, and the rest of the
+// line. Gives nothing where the line is empty, or a short form is cut or has no values.
+fn split_run(line: &[u64]) -> Option<(usize, &[u64], &[u64])>
+    ensures { IfSome result (λ r. (0 < length r.1.now) × (length r.2.now < length line.now)) }
 {
-    if value > 1844674407370955161 {
-        return Grown::TooLarge;
+    if let [SHORT, after @ ..] = line {
+        let [count, k, rest @ ..] = after else {
+            return None;
+        };
+        if *k == 0 {
+            return None;
+        }
+        let (values, rest) = rest.split_at_checked(*k as usize)?;
+        return Some((*count as usize, values, rest));
     }
-    let tens = value * 10;
-    if digit > u64::MAX - tens {
-        return Grown::TooLarge;
-    }
-    Grown::Fits(tens + digit)
+    let (value, rest) = line.split_at_checked(1)?;
+    Some((1, value, rest))
 }
 
-// A line so far. Its numbers are kept in a list beside it.
+// The numbers of a line, the short forms written out. Gives nothing where they cannot be.
+fn write_out(alloc: Global, line: &[u64]) -> io::Result<Option<Vec<u64>>> {
+    let mut numbers = Vec::new(alloc);
+    let (first, mut rest) = line.split_at(line.len().min(2));
+    numbers.extend_from_slice(first)?;
+    while !rest.is_empty() {
+        let Some((count, values, after)) = split_run(rest) else {
+            return Ok(None);
+        };
+        if count > WHOLE.saturating_sub(numbers.len()) {
+            return Ok(None);
+        }
+        for i in 0..count {
+            numbers.push(values[i % values.len()])?;
+        }
+        rest = after;
+    }
+    Ok(Some(numbers))
+}
+
+// A line of numbers.
+fn answer_line<W: Write>(alloc: Global, out: &mut W, line: &[u64]) -> io::Result<bool> {
+    match write_out(alloc, line)? {
+        Some(numbers) => answer_case(alloc, out, numbers.as_slice()),
+        None => Ok(false),
+    }
+}
+
+// The number with one decimal digit more, if it fits.
+fn grow(value: u64, digit: u8) -> Option<u64>
+    ensures { SomeIff result (value * 10 + digit < 2 ^ 64) (value * 10 + digit) }
+{
+    value.checked_mul(10)?.checked_add(u64::from(digit))
+}
+
+// A line so far.
 #[derive(Drop)]
 struct Line {
-    // how many numbers are whole: NOWHERE in a spoilt line
-    filled: usize,
-    // the number that is being read has a digit, and is `value` so far
-    begun: bool,
-    value: u64,
-}
-
-// A line with this many whole numbers, and no digit of the next.
-fn line_of(filled: usize) -> Line {
-    Line {
-        filled: filled,
-        begun: false,
-        value: 0,
-    }
+    // its whole numbers; nothing in a spoilt line
+    numbers: Option<Vec<u64>>,
+    // the number that is being read, if it has a digit
+    open: Option<u64>,
 }
 
 impl Line {
-    // A digit more.
-    fn with_digit(mut self, b: u8) -> Line {
-        if b >= b'0' {
-            if b <= b'9' {
-                if let Grown::Fits(v) = grow(self.value, (b - b'0') as u64) {
-                    self.begun = true;
-                    self.value = v;
-                    return self;
-                }
-            }
+    // A line without bytes.
+    fn new(alloc: Global) -> Line {
+        Line {
+            numbers: Some(Vec::new(alloc)),
+            open: None,
         }
-        line_of(NOWHERE)
+    }
+
+    // A byte more, which is to be a digit.
+    fn add(&mut self, b: u8) {
+        self.open = if b.is_ascii_digit() {
+            grow(self.open.unwrap_or(0), b - b'0')
+        } else {
+            None
+        };
+        if self.open.is_none() {
+            self.numbers = None;
+        }
     }
 
     // The number that is being read ends here.
-    fn closed(self, numbers: &mut [u64; WHOLE]) -> Line {
-        if self.begun {
-            let filled = self.filled;
-            if filled < ROOM {
-                numbers[filled] = self.value;
-                return line_of(filled + 1);
-            }
+    fn close(&mut self) -> io::Result<()> {
+        match (self.open.take(), &mut self.numbers) {
+            (Some(n), Some(numbers)) if numbers.len() < ROOM => numbers.push(n)?,
+            _ => self.numbers = None,
         }
-        line_of(NOWHERE)
+        Ok(())
     }
 
     // The line ends here, and is answered.
-    fn ended<W: Write>(self, out: &mut W, numbers: &mut [u64; WHOLE]) -> io::Result<()> {
-        let line = self.closed(&mut *numbers);
-        answer_line(out, numbers, line.filled)
+    fn end<W: Write>(mut self, alloc: Global, out: &mut W) -> io::Result<()> {
+        self.close()?;
+        let is_case = match &self.numbers {
+            Some(numbers) => answer_line(alloc, out, numbers.as_slice())?,
+            None => false,
+        };
+        if is_case {
+            out.write_all(b"\n")
+        } else {
+            out.write_all(b"bad line\n")
+        }
     }
 
     // A byte more.
-    fn feed<W: Write>(self, out: &mut W, b: u8, numbers: &mut [u64; WHOLE]) -> io::Result<Line> {
-        if b == b'\n' {
-            self.ended(out, numbers)?;
-            return Ok(line_of(0));
+    fn feed<W: Write>(mut self, alloc: Global, out: &mut W, b: u8) -> io::Result<Line> {
+        match b {
+            b'\n' => {
+                self.end(alloc, out)?;
+                return Ok(Line::new(alloc));
+            }
+            b' ' => self.close()?,
+            _ => self.add(b),
         }
-        if b == b' ' {
-            return Ok(self.closed(numbers));
-        }
-        Ok(self.with_digit(b))
+        Ok(self)
     }
 
     // No byte more. A line of no bytes is none.
-    fn last<W: Write>(self, out: &mut W, numbers: &mut [u64; WHOLE]) -> io::Result<()> {
-        if self.filled == 0 {
-            if !self.begun {
+    fn last<W: Write>(self, alloc: Global, out: &mut W) -> io::Result<()> {
+        if let (None, Some(numbers)) = (self.open, &self.numbers) {
+            if numbers.is_empty() {
                 return Ok(());
             }
         }
-        self.ended(out, numbers)
+        self.end(alloc, out)
     }
 }
 
 // The bytes of one read.
 fn feed_all<W: Write>(
+    alloc: Global,
     out: &mut W,
     mut line: Line,
     bytes: &[u8],
-    numbers: &mut [u64; WHOLE],
 ) -> io::Result<Line> {
     for b in bytes {
-        line = line.feed(out, *b, numbers)?;
+        line = line.feed(alloc, out, *b)?;
     }
     Ok(line)
 }
 
 // The answers to the lines that a read ends are written before the next read.
 fn main(rt: HostRuntime) -> io::Result<()> {
+    let alloc = rt.alloc();
     let mut input = rt.stdin();
-    let mut out = BufWriter::new(rt.alloc(), rt.stdout())?;
-    let mut numbers = [0u64; WHOLE];
+    let mut out = BufWriter::new(alloc, rt.stdout())?;
     let mut bytes = [0u8; 65536];
-    let mut line = line_of(0);
+    let mut line = Line::new(alloc);
     for _ in 0..u64::MAX {
         let n = input.read(&mut bytes)?;
         if n == 0 {
-            line.last(&mut out, &mut numbers)?;
+            line.last(alloc, &mut out)?;
             return out.flush();
         }
-        line = feed_all(&mut out, line, &bytes[..n], &mut numbers)?;
+        line = feed_all(alloc, &mut out, line, &bytes[..n])?;
         out.flush()?;
     }
     Ok(())
+}
+
+#[cfg(test)]
+mod tests {
+    use super::*;
+    use std::test::Fail;
+
+    // What is printed for an input.
+    fn printed(alloc: Global, input: &[u8]) -> io::Result<Vec<u8>> {
+        let mut out = Vec::new(alloc);
+        let line = feed_all(alloc, &mut out, Line::new(alloc), input)?;
+        line.last(alloc, &mut out)?;
+        Ok(out)
+    }
+
+    #[test]
+    fn memory_is_enough(rt: HostRuntime) -> Result<(), Fail> {
+        let alloc = rt.alloc();
+        let checked = printed(
+            alloc,
+            b"1 1 3 1 0 0 1 0\n1 1 99999 1 1 3 1 0 0 1 0\n3 1 3 1 0 0 1 0 0 2 9 9",
+        )?;
+        assert_eq!(rt;
+            checked.as_slice(),
+            b"total 1\ntotal 1\nresult 2; 1 0\n".as_slice()
+        );
+        let bad = printed(
+            alloc,
+            b"\n 1\n18446744073709551616\n1 1 3 1 0 0 1 0 0\n1 1 99999 1 0",
+        )?;
+        assert_eq!(rt;
+            bad.as_slice(),
+            b"bad line\nbad line\nbad line\nbad line\nbad line\n".as_slice()
+        );
+        Ok(())
+    }
 }

@@ -1,7 +1,8 @@
 -- Counting the states in turn, whatever they count. Assumes nothing.
-use Rattle.std.specs.Prelude.{if◌then◌else◌}
+use Rattle.std.specs.Prelude.{if◌then◌else◌, Option, Some, None}
+use Rattle.std.specs.Option.{unwrap_or}
 use Prim.Native.Nat.{ℕ, ◌+◌, ◌^◌, ◌<◌, ◌≤◌, min}
-use mathlib.Core.Path.{◌≡◌, refl, sym, ap, ◌∙◌, subst}
+use mathlib.Core.Path.{◌≡◌, refl, sym, ap, ◌∙◌}
 use mathlib.Core.Bool.{Bool, true, false, ◌&&◌}
 use mathlib.Core.List.{List, [], ◌∷◌, map}
 use mathlib.Core.Logic.{◌⊎◌, inl, inr}
@@ -24,9 +25,9 @@ use Rattle.rows.proofs.Words.{rows_long, row_held_lem, args_long}
 use Rattle.counts.specs.declared.Counted.{Counted}
 use Rattle.counts.specs.Chain.{target}
 use Rattle.counts.specs.Marks.{top, ceiling, long_ceiling, long_in, bits_in, empty_in, over_in, over_of, Tells}
-use Rattle.counts.specs.Kept.{Sound, Is}
+use Rattle.counts.specs.Kept.{Is}
 use Rattle.counts.specs.States.{held, held_whole, held_long, row_table, Countable, Summed, CountReady, CountedStates}
-use Rattle.counts.proofs.KeptCounts.{kept, kept_low, is_same}
+use Rattle.counts.proofs.KeptCounts.{kept_low, kept_whole, is_same}
 
 -- no count depends on the accepting list, so no sum of earlier rows and no longest tree does
 module _ (states : ℕ) (rows : List Row) (accepting : List ℕ) where
@@ -64,26 +65,30 @@ earlier_local rs o c d q k e = ap (λ (ws : List ℕ). sum (take k ws)) (map_agr
 
 -- count and mark of a state that has n trees, the longest of so many entries
 pub record StateIs (count mark n entries : ℕ) : Type 0 where
-  pub is : Is (kept count (over_of mark)) n
+  pub low : count ≡ min n top
+  pub is : count + over_of mark ≡ min n ceiling
   pub long : long_in mark ≡ min entries long_ceiling
   pub tells : Tells mark (count + over_of mark) (long_in mark)
 
--- a mark tells whether the count is beyond 64 bits
-over_told : (m count over long : ℕ) → Sound count over → count ≤ top → Tells m (count + over) long → over_of m ≡ over
-over_told m count over long s h t = go s t.bits
+-- a mark tells whether the count is beyond 64 bits: the count that is stored and that are the count, or 2^64
+whole_told : (m long : ℕ) (count : Option ℕ) (n : ℕ) → Is count n → Tells m (unwrap_or count ceiling) long → unwrap_or count top + over_of m ≡ unwrap_or count ceiling
+whole_told m long (Some x) n i t = go t.bits
   where
-    go : Sound count over → ((bits_in m ≤ 64) × (count + over ≤ 2 ^ bits_in m) × (count + over ≤ top)) ⊎ ((bits_in m ≡ 4096) × (ceiling ≤ count + over)) → over_of m ≡ over
-    go (inl e) (inl b) = omega (arith, b.0)
-    go (inr e) (inl b) = absurd (omega (arith, e.0, e.1, b.2))
-    go (inl e) (inr b) = absurd (omega (arith, b.1))
-    go (inr e) (inr b) = omega (arith, e.0, b.0)
+    go : ((bits_in m ≤ 64) × (x ≤ 2 ^ bits_in m) × (x ≤ top)) ⊎ ((bits_in m ≡ 4096) × (ceiling ≤ x)) → x + over_of m ≡ x
+    go (inl b) = omega (arith, b.0)
+    go (inr b) = absurd (omega (arith, b.1, i))
+whole_told m long None n i t = go t.bits
+  where
+    go : ((bits_in m ≤ 64) × (ceiling ≤ 2 ^ bits_in m) × (ceiling ≤ top)) ⊎ ((bits_in m ≡ 4096) × (ceiling ≤ ceiling)) → top + over_of m ≡ ceiling
+    go (inl b) = absurd (omega (arith, b.2))
+    go (inr b) = omega (arith, b.0)
 
 over_known : {count mark n entries : ℕ} → StateIs count mark n entries → over_in mark ≡ ltb top n
 over_known {count} {mark} {n} x = go x.tells.bits
   where
     go : ((bits_in mark ≤ 64) × (count + over_of mark ≤ 2 ^ bits_in mark) × (count + over_of mark ≤ top)) ⊎ ((bits_in mark ≡ 4096) × (ceiling ≤ count + over_of mark)) → over_in mark ≡ ltb top n
-    go (inl b) = lt-leb 4096 (bits_in mark) (omega (arith, b.0)) ∙ sym (le-ltb top n (omega (arith, b.2, x.is.is)))
-    go (inr b) = le-leb 4096 (bits_in mark) (omega (arith, b.0)) ∙ sym (lt-ltb top n (omega (arith, b.1, x.is.is)))
+    go (inl b) = lt-leb 4096 (bits_in mark) (omega (arith, b.0)) ∙ sym (le-ltb top n (omega (arith, b.2, x.is)))
+    go (inr b) = le-leb 4096 (bits_in mark) (omega (arith, b.0)) ∙ sym (lt-ltb top n (omega (arith, b.1, x.is)))
 
 -- ---- the states in turn
 
@@ -147,7 +152,7 @@ module _ {states : ℕ} {pool words first counts₀ marks₀ sums₀ counts mark
   }
 
   whole_below : (a : ℕ) → a < q → held_whole counts marks a ≡ cap ceiling (count T) a
-  whole_below a l = (x.each a l).is.is
+  whole_below a l = (x.each a l).is
 
   long_below : (a : ℕ) → a < q → held_long marks a ≡ cap long_ceiling (longest T) a
   long_below a l = (x.each a l).long
@@ -176,7 +181,7 @@ module _ {states : ℕ} {pool words first counts₀ marks₀ sums₀ counts mark
       lower_cap : (m n : ℕ) → min m ceiling ≡ min n ceiling → min m top ≡ min n top
       lower_cap m n e = omega arith
 
-  module _ {sums' : List ℕ} {s : Counted} (y : Summed rows counts marks q sums sums' s) (m : ℕ) (t : Tells m (s.count + s.over) s.longest) where
+  module _ {sums' : List ℕ} {s : Counted} (y : Summed rows counts marks q sums sums' s) (m : ℕ) (t : Tells m (unwrap_or s.count ceiling) s.longest) where
     -- the mark's entries are the longest tree's, where there is none too
     mark_long : long_in m ≡ s.longest
     mark_long = go (eq-zero-or-pos (empty_in m))
@@ -184,24 +189,22 @@ module _ {states : ℕ} {pool words first counts₀ marks₀ sums₀ counts mark
         go : (empty_in m ≡ 0) ⊎ (0 < empty_in m) → long_in m ≡ s.longest
         go (inl e) = (t.some e).1
         go (inr p) =
-            let z : state_counts rows (held_whole counts marks) q ≡ 0 = omega (arith, (t.none p).0, y.count.is) in
+            let z : state_counts rows (held_whole counts marks) q ≡ 0 = omega (arith, (t.none p).0, kept_whole s.count _ y.count) in
             let n = none_longest rows (held_whole counts marks) (held_long marks) q z in
             omega (arith, (t.none p).1, y.longest, n)
 
-    same_over : over_of m ≡ s.over
-    same_over = over_told m s.count s.over s.longest y.count.sound y.count.small t
+    same_whole : unwrap_or s.count top + over_of m ≡ unwrap_or s.count ceiling
+    same_whole = whole_told m s.longest s.count _ y.count t
 
-    state_is : StateIs s.count m (count T q) (longest T q)
-    state_is = record {
-      is = subst (λ (v : ℕ). Is (kept s.count v) (count T q)) (sym same_over) (is_same y.count count_kept);
-      long = mark_long ∙ y.longest ∙ length_kept;
-      tells = record {
-        roomy = t.roomy;
-        none = λ p. (ap (λ (v : ℕ). s.count + v) same_over ∙ (t.none p).0, (t.none p).1);
-        some = λ e. (rw same_over (t.some e).0, refl);
-        bits = rw same_over t.bits;
-      };
-    }
+    state_is : StateIs (unwrap_or s.count top) m (count T q) (longest T q)
+    state_is =
+        let c : Is s.count (count T q) = is_same s.count _ _ y.count count_kept in
+        record {
+          low = kept_low s.count _ c;
+          is = same_whole ∙ kept_whole s.count _ c;
+          long = mark_long ∙ y.longest ∙ length_kept;
+          tells = rw (same_whole, mark_long) t;
+        }
 
     earlier_more : (k : ℕ) → k < length rows → target rows k < q + 1 → (b : Bool) → ltb (target rows k) q ≡ b
         → get_or sums' k 0 ≡ min (earlier_rows rows (count T) (target rows k) k) top
@@ -212,16 +215,16 @@ module _ {states : ℕ} {pool words first counts₀ marks₀ sums₀ counts mark
         let m : target rows k ≡ q = omega (arith, ltb-false (target rows k) q e) in
         rw m (y.mine k l m ∙ sums_kept k)
 
-    pub counting_goes : Counting states rows counts₀ marks₀ sums₀ (set counts q s.count) (set marks q m) sums' (q + 1)
+    pub counting_goes : Counting states rows counts₀ marks₀ sums₀ (set counts q (unwrap_or s.count top)) (set marks q m) sums' (q + 1)
     counting_goes = record {
       within = omega arith;
-      counts_long = length-set counts q s.count ∙ x.counts_long;
+      counts_long = length-set counts q (unwrap_or s.count top) ∙ x.counts_long;
       marks_long = length-set marks q m ∙ x.marks_long;
       sums_long = y.long ∙ x.sums_long;
-      each = below_more (λ a. StateIs (held (set counts q s.count) a) (held (set marks q m) a) (count T a) (longest T a)) q
-          (λ a l. rw (get_or-set_other counts q a s.count 0 (λ z. omega arith), get_or-set_other marks q a m 0 (λ z. omega arith)) (x.each a l))
-          (rw (get_or-set_same counts q s.count 0 counts_here, get_or-set_same marks q m 0 marks_here) state_is);
-      above = λ a l. get_or-set_other counts q a s.count 0 (λ z. omega arith) ∙ x.above a (omega arith);
+      each = below_more (λ a. StateIs (held (set counts q (unwrap_or s.count top)) a) (held (set marks q m) a) (count T a) (longest T a)) q
+          (λ a l. rw (get_or-set_other counts q a (unwrap_or s.count top) 0 (λ z. omega arith), get_or-set_other marks q a m 0 (λ z. omega arith)) (x.each a l))
+          (rw (get_or-set_same counts q (unwrap_or s.count top) 0 counts_here, get_or-set_same marks q m 0 marks_here) state_is);
+      above = λ a l. get_or-set_other counts q a (unwrap_or s.count top) 0 (λ z. omega arith) ∙ x.above a (omega arith);
       earlier = λ k l h. earlier_more k l h (ltb (target rows k) q) refl;
     }
 
@@ -243,4 +246,4 @@ counting_ends {states} {pool} {words} {counts = counts} {q = q} g x ge = record 
     side a (yes l) =
         let z = count_beyond (row_table states (rows_in pool words)) a l in
         x.above a (omega (arith, x.within)) ∙ sym (ap (λ (v : ℕ). min v top) z)
-    side a (no h) = kept_low (x.each a (omega (arith, lt_of_not-le h, ge))).is
+    side a (no h) = (x.each a (omega (arith, lt_of_not-le h, ge))).low

@@ -1,5 +1,5 @@
 -- What marks tell, and what their sum over a row's arguments tells. Assumes nothing.
-use Rattle.std.specs.Prelude.{if◌then◌else◌}
+use Rattle.std.specs.Prelude.{if◌then◌else◌, Option, Some as counted, None}
 use Prim.Native.Nat.{ℕ, suc, ◌+◌, ◌*◌, ◌%◌, ◌^◌, ◌<◌, ◌≤◌, min}
 use mathlib.Core.Path.{◌≡◌, refl, sym, ap, ◌∙◌, subst}
 use mathlib.Core.List.{List, [], ◌∷◌, map}
@@ -13,11 +13,10 @@ use lib.Pow.{pow-add, pow_mono}
 use borrow.Author.Tests.{lt-ltb, le-ltb, le-leb, lt-leb}
 use Rattle.model.specs.Count.{sum, product}
 use Rattle.model.proofs.Lists.{drop_next}
-use Rattle.counts.specs.declared.Kept.{Kept}
 use Rattle.counts.specs.Marks.{top, ceiling, long_ceiling, long_in, bits_in, empty_in, Roomy, Tells}
-use Rattle.counts.specs.Kept.{Sound, Is}
+use Rattle.counts.specs.Kept.{Is}
 use Rattle.counts.specs.States.{held, held_whole, held_long, Marked, MarksTell, Some, Fits, Weighable, weight_by}
-use Rattle.counts.proofs.KeptCounts.{kept, sound_over, sound_zero, is_zero, is_over, is_count, is_same}
+use Rattle.counts.proofs.KeptCounts.{is_same}
 
 -- ---- one mark
 
@@ -28,35 +27,31 @@ mark_parts m r = omega (arith, r.empty)
 mark_small : (m : ℕ) → Roomy m → m ≤ 1103806599169
 mark_small m r = omega (arith, mark_parts m r, r.long, r.bits, r.empty)
 
-pub tells_empty : (count over longest : ℕ) → Sound count over → count ≡ 0 → Tells 1099511627776 (count + over) longest
-tells_empty count over longest s z =
-    let e : count + over ≡ 0 = sound_zero count over s z in
-    record {
-      roomy = record { long = omega arith; bits = omega arith; empty = omega arith };
-      none = λ _. (e, omega arith);
-      some = λ p. absurd (omega arith);
-      bits = inl (omega arith, rw e (omega arith), omega (arith, e));
-    }
+pub tells_empty : (longest : ℕ) → Tells 1099511627776 0 longest
+tells_empty longest = record {
+  roomy = record { long = omega arith; bits = omega arith; empty = omega arith };
+  none = λ _. (refl, omega arith);
+  some = λ p. absurd (omega arith);
+  bits = inl (omega arith, omega arith, omega arith);
+}
 
-pub tells_beyond : (count over longest : ℕ) → Sound count over → longest ≤ long_ceiling → (over ≡ 0 → ⊥) → Tells (4294967296 + longest) (count + over) longest
-tells_beyond count over longest s l ne =
-    let e : count + over ≡ ceiling = sound_over count over s ne in
-    record {
-      roomy = record { long = omega arith; bits = omega arith; empty = omega arith };
-      none = λ p. absurd (omega arith);
-      some = λ z. (omega (arith, e), omega arith);
-      bits = inr (omega arith, omega (arith, e));
-    }
+pub tells_beyond : (longest : ℕ) → longest ≤ long_ceiling → Tells (4294967296 + longest) ceiling longest
+tells_beyond longest l = record {
+  roomy = record { long = omega arith; bits = omega arith; empty = omega arith };
+  none = λ p. absurd (omega arith);
+  some = λ z. (omega arith, omega arith);
+  bits = inr (omega arith, omega arith);
+}
 
-pub tells_bits : (count over longest b : ℕ) → longest ≤ long_ceiling → over ≡ 0 → 0 < count → count ≤ top → (count ≤ 2 ^ b) × (b ≤ 64)
-    → Tells (1048576 * b + longest) (count + over) longest
-tells_bits count over longest b l e p t h =
+pub tells_bits : (count longest b : ℕ) → longest ≤ long_ceiling → 0 < count → count < ceiling → (count ≤ 2 ^ b) × (b ≤ 64)
+    → Tells (1048576 * b + longest) count longest
+tells_bits count longest b l p t h =
     let here : bits_in (1048576 * b + longest) ≡ b = omega (arith, h.1) in
     record {
       roomy = record { long = omega (arith, h.1); bits = omega (arith, h.1); empty = omega (arith, h.1) };
       none = λ q. absurd (omega (arith, h.1));
-      some = λ z. (omega arith, omega (arith, h.1));
-      bits = inl (omega (arith, h.1), subst (λ (n : ℕ). count + over ≤ 2 ^ n) (sym here) (omega (arith, h.0)), omega arith);
+      some = λ z. (p, omega (arith, h.1));
+      bits = inl (omega (arith, h.1), subst (λ (n : ℕ). count ≤ 2 ^ n) (sym here) h.0, omega arith);
     }
 
 -- ---- sums of parts
@@ -170,14 +165,14 @@ by_beyond s p l m = rw (lt-leb 1099511627776 s l, le-leb 4294967296 s m)
 by_product : (s p : ℕ) → s < 4294967296 → weight_by s p ≡ p
 by_product s p l = rw (lt-leb 1099511627776 s (omega arith), lt-leb 4294967296 s l)
 
-pub weighed_none : (s p : ℕ) → 1099511627776 ≤ s → Is (kept 0 0) (weight_by s p)
-weighed_none s p l = is_zero _ (by_empty s p l)
+pub weighed_none : (s p : ℕ) → 1099511627776 ≤ s → Is (counted 0) (weight_by s p)
+weighed_none s p l = let e = by_empty s p l in (omega (arith, e), sym e)
 
-pub weighed_beyond : (s p : ℕ) → s < 1099511627776 → 4294967296 ≤ s → Is (kept top 1) (weight_by s p)
-weighed_beyond s p l m = is_over _ (omega (arith, by_beyond s p l m))
+pub weighed_beyond : (s p : ℕ) → s < 1099511627776 → 4294967296 ≤ s → Is None (weight_by s p)
+weighed_beyond s p l m = λ h. omega (arith, h, by_beyond s p l m)
 
-pub weighed_wide : (s p : ℕ) {k : Kept} → s < 4294967296 → Is k p → Is k (weight_by s p)
-weighed_wide s p l i = is_same i (sym (ap (λ (n : ℕ). min n ceiling) (by_product s p l)))
+pub weighed_wide : (s p : ℕ) (k : Option ℕ) → s < 4294967296 → Is k p → Is k (weight_by s p)
+weighed_wide s p k l i = is_same k p _ i (sym (ap (λ (n : ℕ). min n ceiling) (by_product s p l)))
 
 module _ {s : ℕ} {counts args : List ℕ} (w : Weighable s counts args) where
   pub wide_some : s < 4294967296 → Some counts args
@@ -186,10 +181,10 @@ module _ {s : ℕ} {counts args : List ℕ} (w : Weighable s counts args) where
   pub plain_fits : s < 67108864 → Fits counts args
   plain_fits l = record { some = wide_some (omega arith); fits = w.plain l }
 
-  pub weighed_plain : s < 67108864 → (x : ℕ) → x ≡ product (map (held counts) args) → Is (kept x 0) (weight_by s (product (map (held counts) args)))
-  weighed_plain l x e = weighed_wide s _ (omega arith) (is_count x _ e (w.plain l))
+  pub weighed_plain : s < 67108864 → (x : ℕ) → x ≡ product (map (held counts) args) → Is (counted x) (weight_by s (product (map (held counts) args)))
+  weighed_plain l x e = weighed_wide s _ (counted x) (omega arith) (omega (arith, w.plain l), e)
 
-  pub weighed_one : s < 1048576 → Is (kept 1 0) (weight_by s (product (map (held counts) args)))
+  pub weighed_one : s < 1048576 → Is (counted 1) (weight_by s (product (map (held counts) args)))
   weighed_one l = weighed_plain (omega arith) 1 (sym (w.one l))
 
 pub marks_placed : {counts marks args : List ℕ} → MarksTell counts marks args → Marked marks args
@@ -244,8 +239,8 @@ module _ {counts marks args : List ℕ} (t : MarksTell counts marks args) {s : �
       go (no y) (yes z) = let l = lt_of_not-le y in omega (arith, by_beyond s (product (map (held counts) args)) l z, beyond l z)
       go (no y) (no z) = let l = lt_of_not-le z in ap (λ (n : ℕ). min n ceiling) (by_product s _ l ∙ same l)
 
-  pub weight_is : {k : Kept} → Is k (weight_by s (product (map (held counts) args))) → Is k (product (map (held_whole counts marks) args))
-  weight_is i = is_same i weight_same
+  pub weight_is : (k : Option ℕ) → Is k (weight_by s (product (map (held counts) args))) → Is k (product (map (held_whole counts marks) args))
+  weight_is k i = is_same k _ _ i weight_same
 
   -- and the entries of its longest tree stand in the sum
   pub longer_told : (if ltb s 1099511627776 then s % 1048576 else 0) ≡ (if ltb 0 (product (map (held_whole counts marks) args)) then 2 + sum (map (held_long marks) args) else 0)
@@ -262,14 +257,13 @@ module _ {counts marks args : List ℕ} (t : MarksTell counts marks args) {s : �
 
 -- ---- the sum, mark by mark
 
--- one mark more
-pub record SumStep (marks args : List ℕ) (i a : ℕ) : Type 0 where
-  pub small : get_or marks a 0 ≤ 1103806599169
-  pub next : sum (map (held marks) (drop i args)) ≡ get_or marks a 0 + sum (map (held marks) (drop (i + 1) args))
-
-pub sum_step : (marks args : List ℕ) (i a : ℕ) → Marked marks args → i < length args → a ≡ get_or args i 0 → SumStep marks args i a
+-- one entry more
+pub add_step : (xs args : List ℕ) (i : ℕ) → i < length args → sum (map (held xs) (drop i args)) ≡ get_or xs (get_or args i 0) 0 + sum (map (held xs) (drop (i + 1) args))
 unfolding sum
-sum_step marks args i a m l e = record { small = rw e (mark_small _ (m.roomy i l)); next = rw (drop_next args i l, e) }
+add_step xs args i l = rw (drop_next args i l)
+
+pub mark_room : (marks args : List ℕ) (i : ℕ) → Marked marks args → i < length args → get_or marks (get_or args i 0) 0 ≤ 1103806599169
+mark_room marks args i m l = mark_small _ (m.roomy i l)
 
 pub sum_end : (f : ℕ → ℕ) (args : List ℕ) (i : ℕ) → length args ≤ i → sum (map f (drop i args)) ≡ 0
 unfolding sum

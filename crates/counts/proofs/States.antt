@@ -1,5 +1,6 @@
 -- Counting one state along the chain of its rows. Assumes nothing.
-use Rattle.std.specs.Prelude.{if◌then◌else◌}
+use Rattle.std.specs.Prelude.{if◌then◌else◌, Option, Some}
+use Rattle.std.specs.Option.{unwrap_or}
 use Prim.Native.Nat.{ℕ, zero, suc, ◌+◌, ◌-◌, ◌<◌, ◌≤◌, ◌%◌, min, max}
 use mathlib.Core.Path.{◌≡◌, refl, sym, ap, ◌∙◌, subst}
 use mathlib.Core.Bool.{Bool, true, false}
@@ -16,12 +17,11 @@ use Rattle.model.specs.Value.{earlier_rows}
 use Rattle.model.proofs.Counting.{get_d_map, sum_take_suc, largest_take_suc}
 use Rattle.rows.specs.Words.{after_in, args_in, rows_in, row_no, Inside}
 use Rattle.rows.proofs.Words.{rows_long, row_held_lem}
-use Rattle.counts.specs.declared.Kept.{Kept}
 use Rattle.counts.specs.Chain.{target, leads, TargetLink}
-use Rattle.counts.specs.Marks.{top, long_ceiling}
+use Rattle.counts.specs.Marks.{top, ceiling, long_ceiling}
 use Rattle.counts.specs.Kept.{Is}
 use Rattle.counts.specs.States.{held, held_whole, held_long, MarksTell, weight_by, Summed, Countable}
-use Rattle.counts.proofs.KeptCounts.{kept, kept_low, kept_plus, is_zero}
+use Rattle.counts.proofs.KeptCounts.{kept_low, kept_plus}
 use Rattle.counts.proofs.Marks.{weight_is, longer_told}
 use Rattle.counts.proofs.Chain.{leads_row, leads_end}
 
@@ -93,11 +93,11 @@ module _ (rows : List Row) (c l : ℕ → ℕ) (q : ℕ) where
   unfolding state_longest
   all_lengths = ap largest (take_all (length rows) (map (row_longest c l q) rows) (rw (length-map rows (row_longest c l q)) (omega arith)))
 
-  -- the rows of state q before the one that p leads to are counted: what they count together is kept to 2^64, each sum to 64 bits
-  pub record Summing (sums₀ sums : List ℕ) (count over long p : ℕ) : Type 0 where
+  -- the rows of state q before the one that p leads to are counted: what they count together is kept, each sum to 64 bits
+  pub record Summing (sums₀ sums : List ℕ) (count : Option ℕ) (long p : ℕ) : Type 0 where
     pub inside : 0 < p → p - 1 < length rows
     pub mine : 0 < p → target rows (p - 1) ≡ q
-    pub counted : Is (kept count over) (earlier_rows rows c q (leads p (length rows)))
+    pub counted : Is count (earlier_rows rows c q (leads p (length rows)))
     pub measured : long ≡ largest (take (leads p (length rows)) lengths)
     pub sums_long : length sums ≡ length sums₀
     pub own : (k : ℕ) → k < leads p (length rows) → target rows k ≡ q → get_or sums k 0 ≡ min (earlier_rows rows c q k) top
@@ -109,33 +109,33 @@ module _ (rows : List Row) (c l : ℕ → ℕ) (q : ℕ) where
   mine_of : (m p : ℕ) → TargetLink rows q m (length rows) p → 0 < p → target rows (p - 1) ≡ q
   mine_of m p t h = rw (leads_row p (length rows) h) at (t.mine h)
 
-  sum_begins : (sums : List ℕ) (p : ℕ) → TargetLink rows q 0 (length rows) p → Summing sums sums 0 0 0 p
+  sum_begins : (sums : List ℕ) (p : ℕ) → TargetLink rows q 0 (length rows) p → Summing sums sums (Some 0) 0 p
   unfolding earlier_rows sum largest
   sum_begins sums p t = record {
     inside = inside_of 0 p t;
     mine = mine_of 0 p t;
-    counted = is_zero _ (earlier_skip rows c q 0 (leads p (length rows)) (omega arith) t.within t.gap);
+    counted = let e : earlier_rows rows c q (leads p (length rows)) ≡ 0 = earlier_skip rows c q 0 (leads p (length rows)) (omega arith) t.within t.gap in (omega (arith, e), sym e);
     measured = sym (largest_skip 0 (leads p (length rows)) (omega arith) t.within t.gap);
     sums_long = refl;
     own = λ k lt h. absurd (t.gap k (omega arith) lt h);
     others = λ k ne. refl;
   }
 
-  module _ {sums₀ sums : List ℕ} {count over long p : ℕ} (s : Summing sums₀ sums count over long p) (pos : 0 < p) {w k : Kept} (long' p' : ℕ)
-      (row : Is w (product (map c (row_no rows (p - 1)).args))) (more : Is k ((count + over) + (w.count + w.over)))
+  module _ {sums₀ sums : List ℕ} {count : Option ℕ} {long p : ℕ} (s : Summing sums₀ sums count long p) (pos : 0 < p) (w k : Option ℕ) (long' p' : ℕ)
+      (row : Is w (product (map c (row_no rows (p - 1)).args))) (more : Is k (unwrap_or count ceiling + unwrap_or w ceiling))
       (longest : long' ≡ max long (if ltb 0 (product (map c (row_no rows (p - 1)).args)) then 2 + sum (map l (row_no rows (p - 1)).args) else 0))
       (t : TargetLink rows q (suc (p - 1)) (length rows) p') (places : length rows ≤ length sums₀) where
     here : leads p (length rows) ≡ p - 1
     here = leads_row p (length rows) pos
 
-    counted_before : Is (kept count over) (earlier_rows rows c q (p - 1))
-    counted_before = subst (λ (n : ℕ). Is (kept count over) (earlier_rows rows c q n)) here s.counted
+    counted_before : Is count (earlier_rows rows c q (p - 1))
+    counted_before = subst (λ (n : ℕ). Is count (earlier_rows rows c q n)) here s.counted
 
     counted_more : Is k (earlier_rows rows c q (leads p' (length rows)))
     counted_more =
         subst (λ (n : ℕ). Is k n)
         (sym (earlier_skip rows c q (suc (p - 1)) (leads p' (length rows)) t.from t.within t.gap ∙ earlier_more rows c q (p - 1) (s.inside pos) (s.mine pos)))
-        (kept_plus counted_before row more)
+        (kept_plus count w k _ _ counted_before row more)
 
     measured_more : long' ≡ largest (take (leads p' (length rows)) lengths)
     measured_more =
@@ -149,35 +149,35 @@ module _ (rows : List Row) (c l : ℕ → ℕ) (q : ℕ) where
         ∙ sym a
 
     own_more : (k : ℕ) → k < leads p' (length rows) → target rows k ≡ q → (b : Bool) → ltb k (p - 1) ≡ b → (e : Bool) → eqb k (p - 1) ≡ e
-        → get_or (set sums (p - 1) count) k 0 ≡ min (earlier_rows rows c q k) top
+        → get_or (set sums (p - 1) (unwrap_or count top)) k 0 ≡ min (earlier_rows rows c q k) top
     own_more k lt h true x e y =
         let below : k < p - 1 = ltb-true k (p - 1) x in
         let ne : k ≡ p - 1 → ⊥ = λ z. omega arith in
-        get_or-set_other sums (p - 1) k count 0 ne ∙ s.own k (rw here below) h
+        get_or-set_other sums (p - 1) k (unwrap_or count top) 0 ne ∙ s.own k (rw here below) h
     own_more k lt h false x true y =
         let z : k ≡ p - 1 = eqb-true k (p - 1) y in
         let room : p - 1 < length sums = omega (arith, s.sums_long, s.inside pos) in
-        rw z (get_or-set_same sums (p - 1) count 0 room ∙ kept_low counted_before)
+        rw z (get_or-set_same sums (p - 1) (unwrap_or count top) 0 room ∙ kept_low count _ counted_before)
     own_more k lt h false x false y = absurd (t.gap k (omega (arith, ltb-false k (p - 1) x, eqb-false k (p - 1) y)) lt h)
 
-    sum_goes : Summing sums₀ (set sums (p - 1) count) k.count k.over long' p'
+    sum_goes : Summing sums₀ (set sums (p - 1) (unwrap_or count top)) k long' p'
     sum_goes = record {
       inside = inside_of (suc (p - 1)) p' t;
       mine = mine_of (suc (p - 1)) p' t;
       counted = counted_more;
       measured = measured_more;
-      sums_long = length-set sums (p - 1) count ∙ s.sums_long;
+      sums_long = length-set sums (p - 1) (unwrap_or count top) ∙ s.sums_long;
       own = λ k lt h. own_more k lt h (ltb k (p - 1)) refl (eqb k (p - 1)) refl;
-      others = λ k ne. get_or-set_other sums (p - 1) k count 0 (λ z. ne (ap (λ (v : ℕ). target rows v) z ∙ s.mine pos)) ∙ s.others k ne;
+      others = λ k ne. get_or-set_other sums (p - 1) k (unwrap_or count top) 0 (λ z. ne (ap (λ (v : ℕ). target rows v) z ∙ s.mine pos)) ∙ s.others k ne;
     }
 
 -- ---- the row that the link leads to, by its word
 
-abbrev pub StateSumming : (rows : List Row) (counts marks : List ℕ) (q : ℕ) (sums₀ sums : List ℕ) (count over long p : ℕ) → Type 0
-StateSumming rows counts marks q sums₀ sums count over long p = Summing rows (held_whole counts marks) (held_long marks) q sums₀ sums count over long p
+abbrev pub StateSumming : (rows : List Row) (counts marks : List ℕ) (q : ℕ) (sums₀ sums : List ℕ) (count : Option ℕ) (long p : ℕ) → Type 0
+StateSumming rows counts marks q sums₀ sums count long p = Summing rows (held_whole counts marks) (held_long marks) q sums₀ sums count long p
 
-module _ {pool words first counts marks sums₀ sums : List ℕ} {q count over long p : ℕ} (c : Countable pool words first counts marks sums₀ q)
-    (s : StateSumming (rows_in pool words) counts marks q sums₀ sums count over long p) (pos : 0 < p) where
+module _ {pool words first counts marks sums₀ sums : List ℕ} {q long p : ℕ} {count : Option ℕ} (c : Countable pool words first counts marks sums₀ q)
+    (s : StateSumming (rows_in pool words) counts marks q sums₀ sums count long p) (pos : 0 < p) where
   abbrev rows : List Row
   rows = rows_in pool words
 
@@ -206,30 +206,30 @@ module _ {pool words first counts marks sums₀ sums : List ℕ} {q count over l
   pub link_further : (p' : ℕ) → p' ≡ after_in word → length rows - leads p' (length rows) < length rows - leads p (length rows)
   link_further p' e = rw e (omega (arith, s.inside pos, link_here.from, link_here.within, leads_row p (length rows) pos))
 
-  module _ (args : List ℕ) (e : args ≡ args_in pool word) (m long' p' : ℕ) {w k : Kept} (marksum : m ≡ 2 + sum (map (held marks) args)) where
-    pub state_goes : Is w (weight_by m (product (map (held counts) args))) → Is k ((count + over) + (w.count + w.over))
+  module _ (args : List ℕ) (e : args ≡ args_in pool word) (m long' p' : ℕ) (w k : Option ℕ) (marksum : m ≡ 2 + sum (map (held marks) args)) where
+    pub state_goes : Is w (weight_by m (product (map (held counts) args))) → Is k (unwrap_or count ceiling + unwrap_or w ceiling)
         → long' ≡ max long (if ltb m 1099511627776 then m % 1048576 else 0) → p' ≡ after_in word
-        → StateSumming rows counts marks q sums₀ (set sums (p - 1) count) k.count k.over long' p'
+        → StateSumming rows counts marks q sums₀ (set sums (p - 1) (unwrap_or count top)) k long' p'
     state_goes row more longest link =
         let a : args ≡ (row_no rows (p - 1)).args = e ∙ sym args_here in
         let t = marked_here args e in
-        sum_goes rows (held_whole counts marks) (held_long marks) q s pos long' p' (rw a at (weight_is t marksum row)) more
+        sum_goes rows (held_whole counts marks) (held_long marks) q s pos w k long' p' (rw a at (weight_is t marksum w row)) more
         (rw a at (longest ∙ ap (λ (v : ℕ). max long v) (longer_told t marksum))) (rw (← link) at link_here) (omega (arith, c.sums_room, rows_long pool words))
 
 pub state_begins : {pool words first counts marks sums : List ℕ} {q : ℕ} → Countable pool words first counts marks sums q
-    → (p : ℕ) → p ≡ get_or first q 0 → StateSumming (rows_in pool words) counts marks q sums sums 0 0 0 p
+    → (p : ℕ) → p ≡ get_or first q 0 → StateSumming (rows_in pool words) counts marks q sums sums (Some 0) 0 p
 state_begins {pool} {words} {first} {counts} {marks} {sums} {q} c p e =
     sum_begins (rows_in pool words) (held_whole counts marks) (held_long marks) q sums p (rw e (c.chained.firsts q c.state))
 
-pub state_ends : (rows : List Row) (counts marks : List ℕ) (q : ℕ) {sums₀ sums : List ℕ} {count over long p : ℕ} (long' : ℕ)
-    → StateSumming rows counts marks q sums₀ sums count over long p → p ≤ 0 → long' ≡ min long long_ceiling
-    → Summed rows counts marks q sums₀ sums (record { count = count; over = over; longest = long' })
-state_ends rows counts marks q {sums₀} {sums} {count} {over} {long} {p} long' s le cut =
+pub state_ends : (rows : List Row) (counts marks : List ℕ) (q : ℕ) {sums₀ sums : List ℕ} {count : Option ℕ} {long p : ℕ} (long' : ℕ)
+    → StateSumming rows counts marks q sums₀ sums count long p → p ≤ 0 → long' ≡ min long long_ceiling
+    → Summed rows counts marks q sums₀ sums (record { count = count; longest = long' })
+state_ends rows counts marks q {sums₀} {sums} {count} {long} {p} long' s le cut =
     let c : ℕ → ℕ = held_whole counts marks in
     let z : p ≡ 0 = omega arith in
     let e : leads p (length rows) ≡ length rows = ap (λ (v : ℕ). leads v (length rows)) z ∙ leads_end (length rows) in
     record {
-      count = subst (λ (n : ℕ). Is (kept count over) n) (ap (λ (v : ℕ). earlier_rows rows c q v) e ∙ all_earlier rows c q) s.counted;
+      count = subst (λ (n : ℕ). Is count n) (ap (λ (v : ℕ). earlier_rows rows c q v) e ∙ all_earlier rows c q) s.counted;
       longest = cut ∙ ap (λ (v : ℕ). min v long_ceiling) (s.measured ∙ ap (λ (v : ℕ). largest (take v (lengths rows c (held_long marks) q))) e ∙ all_lengths rows c (held_long marks) q);
       long = s.sums_long;
       mine = λ k lt h. s.own k (rw e lt) h;

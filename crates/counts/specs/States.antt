@@ -73,7 +73,7 @@ pub record Countable (pool words first counts marks sums : List ℕ) (q : ℕ) :
 
 -- its count and its longest tree, from what is held for the states below it, and for each of its rows the sum of those before it
 pub record Summed (rows : List Row) (counts marks : List ℕ) (q : ℕ) (sums₀ sums : List ℕ) (r : Counted) : Type 0 where
-  pub count : Is (record { count = r.count; over = r.over }) (state_counts rows (held_whole counts marks) q)
+  pub count : Is r.count (state_counts rows (held_whole counts marks) q)
   pub longest : r.longest ≡ min (state_longest rows (held_whole counts marks) (held_long marks) q) long_ceiling
   pub long : length sums ≡ length sums₀
   pub mine : (k : ℕ) → k < length rows → target rows k ≡ q → get_or sums k 0 ≡ min (earlier_rows rows (held_whole counts marks) q k) top

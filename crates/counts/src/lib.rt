@@ -3,16 +3,17 @@
 // sum over a row's arguments decides nearly every row without a tested product.
 #![tactic(auto)]
 
-ghost use Rattle.std.specs.Prelude.{◌≡◌, ◌+◌, ◌^◌, ◌<◌, ◌≤◌, ◌%◌, min, max, ltb, map, if◌then◌else◌};
+ghost use Rattle.std.specs.Prelude.{◌≡◌, ◌+◌, ◌^◌, ◌<◌, ◌≤◌, ◌%◌, max, ltb, map, if◌then◌else◌};
+ghost use Rattle.std.specs.Option.{unwrap_or};
+ghost use Rattle.std.proofs.Props.{props};
 ghost use Rattle.model.specs.Count.{sum, product};
-ghost use Rattle.rows.specs.Words.{rows_in};
-ghost use Rattle.counts.specs.Chain.{Chainable, ChainedRows};
-ghost use Rattle.counts.specs.Marks.{long_in, over_in, long_ceiling, Tells};
-ghost use Rattle.counts.specs.Kept.{Sound, Is};
+ghost use Rattle.rows.specs.Words.{rows_in, afters};
+ghost use Rattle.counts.specs.Chain.{Chainable, Chained, ChainedRows};
+ghost use Rattle.counts.specs.Marks.{long_in, over_in, ceiling, long_ceiling, Tells};
+ghost use Rattle.counts.specs.Kept.{Is};
 ghost use Rattle.counts.specs.States.{held, ArgsPlaced, Marked, Some, Fits, Weighable, weight_by, Countable, Summed, CountReady, CountedStates};
 
-// The largest number of 64 bits, to which counts and sums are kept.
-pub const TOP: u64 = 18446744073709551615;
+use rows::Rows;
 
 // The parts of a mark: entries below the first, bits of the count from it on, the mark for a count beyond 64 bits, the mark for no trees.
 const BIT: u64 = 1048576;
@@ -24,22 +25,22 @@ const EMPTY: u64 = 1099511627776;
 // Longest trees are kept to this, the first number above their limit.
 const LENGTH_CEILING: u64 = 4097;
 
-// A count kept to 2^64: `count` and `over` together, where `over` is 1 only beside TOP.
+// Rows chained by their targets: the first row of each state's chain, the links standing in the words.
 #[derive(Clone, Copy)]
-pub struct Kept {
-    pub count: u64,
-    pub over: u64,
+pub struct ByTarget<'a> {
+    pub rows: Rows<'a>,
+    pub first: &'a [u16],
+    ghost chained: { Chained (rows_in rows.pool.now rows.words.now) first.now (afters rows.words.now) } by { Prim.hlevel props },
 }
 
-// What a state counts, kept to 2^64, and how many entries its longest tree has, kept to 4,097.
+// What a state counts, or nothing if that is beyond 64 bits, and how many entries its longest tree has, kept to 4,097.
 #[derive(Clone, Copy)]
 struct Counted {
-    count: u64,
-    over: u64,
+    count: Option<u64>,
     longest: u64,
 }
 
-// Whether a mark is of a state that counts more than TOP.
+// Whether a mark is of a state whose count is beyond 64 bits.
 pub fn over_in(mark: u64) -> bool
     ensures { result ≡ over_in mark }
 {
@@ -53,50 +54,24 @@ pub fn long_in(mark: u64) -> u64
     mark % BIT
 }
 
-// A sum of two kept counts.
-fn plus(w: u64, v: u64, c: u64, o: u64) -> Kept
-    requires { Sound w v × Sound c o }
-    ensures { Is result ((w + v) + (c + o)) }
+// A sum of two counts, if it has 64 bits; nothing is a count beyond them.
+fn plus(a: Option<u64>, b: Option<u64>) -> Option<u64>
+    ensures { Is result (unwrap_or a ceiling + unwrap_or b ceiling) }
 {
-    if v != 0 {
-        return Kept {
-            count: TOP,
-            over: 1,
-        };
-    }
-    if o != 0 {
-        return Kept {
-            count: TOP,
-            over: 1,
-        };
-    }
-    if TOP - w < c {
-        return Kept {
-            count: TOP,
-            over: 1,
-        };
-    }
-    Kept {
-        count: w + c,
-        over: 0,
-    }
+    a?.checked_add(b?)
 }
 
-// The sum of the values of the states in a list.
-pub fn sum_of(list: &[u16], values: &[u64]) -> Kept
+// The sum of the values of the states in a list, if it has 64 bits.
+#[tactic(auto, using(crate::proofs::Marks::add_step, crate::proofs::Marks::sum_end))]
+pub fn sum_of(list: &[u16], values: &[u64]) -> Option<u64>
     requires { ArgsPlaced values.now list.now }
     ensures { Is result (sum (map (held values.now) list.now)) }
 {
     let mut w: u64 = 0;
-    let mut v: u64 = 0;
-    let mut i: usize = 0;
-    while i < list.len() {
-        let k = plus(w, v, values[chains::wide(list[i])], 0);
-        w = k.count;
-        v = k.over;
-        i += 1;
+    for a in list {
+        w = w.checked_add(values[usize::from(*a)])?;
     }
-    Kept { count: w, over: v }
+    Some(w)
 }
 
 // A number of bits that holds a count: 1 needs none.
@@ -104,124 +79,86 @@ fn bits_of(c: u64) -> u64
     requires { 0 < c }
     ensures { (c ≤ 2 ^ result) × (result ≤ 64) }
 {
-    let z = u64::leading_zeros(c - 1);
-    (64 - z) as u64
+    u64::from(64 - (c - 1).leading_zeros())
 }
 
 // The mark of a state that counts so and whose longest tree has so many entries, kept to 4,097.
-fn mark_of(count: u64, over: u64, longest: u64) -> u64
-    requires { Sound count over × (longest ≤ long_ceiling) }
-    ensures { Tells result (count + over) longest }
+fn mark_of(count: Option<u64>, longest: u64) -> u64
+    requires { longest ≤ long_ceiling }
+    ensures { Tells result (unwrap_or count ceiling) longest }
 {
-    if count == 0 {
-        return EMPTY;
+    match count {
+        Some(0) => EMPTY,
+        Some(n) => BIT * bits_of(n) + longest,
+        None => BEYOND + longest,
     }
-    if over != 0 {
-        return BEYOND + longest;
-    }
-    BIT * bits_of(count) + longest
 }
 
 // The marks of a row's arguments together, and 2 for the row's own entries.
+#[tactic(auto, using(crate::proofs::Marks::add_step, crate::proofs::Marks::mark_room, crate::proofs::Marks::sum_end))]
 fn row_sum(args: &[u16], marks: &[u64]) -> u64
     requires { Marked marks.now args.now }
     ensures { result ≡ 2 + sum (map (held marks.now) args.now) }
 {
     let mut s: u64 = 2;
-    let mut i: usize = 0;
-    while i < args.len() {
-        s += marks[chains::wide(args[i])];
-        i += 1;
+    for a in args {
+        s += marks[usize::from(*a)];
     }
     s
 }
 
 // A product that is known to fit.
+#[tactic(auto, using(crate::proofs::Products::factor_goes, crate::proofs::Products::factor_below, crate::proofs::Products::factor_end))]
 fn plain_product(args: &[u16], counts: &[u64]) -> u64
     requires { Fits counts.now args.now }
     ensures { result ≡ product (map (held counts.now) args.now) }
 {
     let mut w: u64 = 1;
-    let mut i: usize = 0;
-    while i < args.len() {
-        w *= counts[chains::wide(args[i])];
-        i += 1;
+    for a in args {
+        w *= counts[usize::from(*a)];
     }
     w
 }
 
-// A product of counts none of which is 0: what is beyond stays beyond.
-// (No division is left in the machine code: the compiler knows this test, multiplies and asks whether that passed 64 bits.)
-fn wide_product(args: &[u16], counts: &[u64]) -> Kept
+// A product of counts none of which is 0, if it has 64 bits: what is beyond stays beyond.
+#[tactic(auto, using(crate::proofs::Products::factor_goes, crate::proofs::Products::factor_below, crate::proofs::Products::factor_end))]
+fn wide_product(args: &[u16], counts: &[u64]) -> Option<u64>
     requires { Some counts.now args.now }
     ensures { Is result (product (map (held counts.now) args.now)) }
 {
     let mut w: u64 = 1;
-    let mut i: usize = 0;
-    while i < args.len() {
-        let c = counts[chains::wide(args[i])];
-        if TOP / c < w {
-            return Kept {
-                count: TOP,
-                over: 1,
-            };
-        }
-        w *= c;
-        i += 1;
+    for a in args {
+        w = w.checked_mul(counts[usize::from(*a)])?;
     }
-    Kept { count: w, over: 0 }
+    Some(w)
 }
 
 // What a row counts whose marks together are s. An argument without trees comes first: then the row counts 0, whatever the others count. No product
 // where s tells what it is, a plain one where s tells that it fits.
-fn row_weight(s: u64, args: &[u16], counts: &[u64]) -> Kept
+fn row_weight(s: u64, args: &[u16], counts: &[u64]) -> Option<u64>
     requires { Weighable s counts.now args.now }
     ensures { Is result (weight_by s (product (map (held counts.now) args.now))) }
 {
     if EMPTY <= s {
-        return Kept { count: 0, over: 0 };
+        return Some(0);
     }
     if s < BIT {
-        return Kept { count: 1, over: 0 };
+        return Some(1);
     }
     if s < 67108864 {
-        let w = plain_product(args, counts);
-        return Kept { count: w, over: 0 };
+        return Some(plain_product(args, counts));
     }
     if BEYOND <= s {
-        return Kept {
-            count: TOP,
-            over: 1,
-        };
+        return None;
     }
     wide_product(args, counts)
-}
-
-fn larger(a: u64, b: u64) -> u64
-    ensures { result ≡ max a b }
-{
-    if a < b { b } else { a }
 }
 
 // The longer of what was found and the longest tree of a row whose marks together are s; a row with an argument without trees has none.
 fn longer_of(long: u64, s: u64) -> u64
     ensures { result ≡ max long (if ltb s 1099511627776 then s % 1048576 else 0) }
 {
-    if s < EMPTY {
-        return larger(long, s % BIT);
-    }
-    long
-}
-
-// A length, kept to 4,097.
-fn kept_length(n: u64) -> u64
-    ensures { result ≡ min n long_ceiling }
-{
-    if LENGTH_CEILING < n {
-        LENGTH_CEILING
-    } else {
-        n
-    }
+    if s < EMPTY { long.max(s % BIT) } else { long }
 }
 
 // Chains the rows by their targets, in their order, by links in their words.
@@ -229,17 +166,15 @@ pub fn chain_rows(pool: &[u16], words: &mut [u64], first: &mut [u16])
     requires { Chainable pool.now words.old first.old }
     ensures { ChainedRows pool.now words.old first.old words.new first.new }
 {
-    let mut m = words.len();
-    while 0 < m {
-        m -= 1;
+    for m in (0..words.len()).rev() {
         let w = words[m];
-        let t = chains::wide(rows::target_in(w));
-        words[m] = w + chains::wider(first[t]) * 4503599627370496;
+        let t = usize::from(rows::target_in(w));
+        words[m] = w + u64::from(first[t]) * 4503599627370496;
         first[t] = (m + 1) as u16;
     }
 }
 
-// Counts state q by its rows, and stores for each row what the state's earlier rows count together, kept to TOP.
+// Counts state q by its rows, and stores for each row what the state's earlier rows count together, kept to 64 bits.
 fn count_state(
     pool: &[u16],
     words: &[u64],
@@ -253,27 +188,22 @@ fn count_state(
     ensures { Summed (rows_in pool.now words.now) counts.now marks.now q
         sums.old sums.new result }
 {
-    let mut count: u64 = 0;
-    let mut over: u64 = 0;
+    let mut count = Some(0);
     let mut long: u64 = 0;
-    let mut p = chains::wide(first[q]);
+    let mut p = usize::from(first[q]);
     while 0 < p {
         let r = p - 1;
         let word = words[r];
         let args = rows::args_in(pool, word);
-        sums[r] = count;
+        sums[r] = count.unwrap_or(u64::MAX);
         let s = row_sum(args, marks);
-        let w = row_weight(s, args, counts);
-        let k = plus(count, over, w.count, w.over);
-        count = k.count;
-        over = k.over;
+        count = plus(count, row_weight(s, args, counts));
         long = longer_of(long, s);
         p = rows::after_in(word);
     }
     Counted {
-        count: count,
-        over: over,
-        longest: kept_length(long),
+        count,
+        longest: long.min(LENGTH_CEILING),
     }
 }
 
@@ -291,13 +221,9 @@ pub fn count_states(
     ensures { CountedStates states (rows_in pool.now words.now) counts.old marks.old
         sums.old counts.new marks.new sums.new }
 {
-    let mut q: usize = 0;
-    while q < states {
-        let s = count_state(pool, words, first, &*counts, &*marks, sums, q);
-        let count = s.count;
-        let m = mark_of(count, s.over, s.longest);
-        counts[q] = count;
-        marks[q] = m;
-        q += 1;
+    for q in 0..states {
+        let s = count_state(pool, words, first, counts, marks, sums, q);
+        counts[q] = s.count.unwrap_or(u64::MAX);
+        marks[q] = mark_of(s.count, s.longest);
     }
 }

@@ -1,5 +1,5 @@
 -- The lines of a names list, taken one after another. Assumes nothing.
-use Rattle.std.specs.Prelude.{if◌then◌else◌}
+use Rattle.std.specs.Prelude.{if◌then◌else◌, Result, Ok, Err}
 use Prim.Native.Nat.{ℕ, suc, ◌+◌, ◌-◌, ◌*◌, ◌/◌, ◌<◌, ◌≤◌}
 use mathlib.Core.Path.{◌≡◌, refl, sym, ap, ap₂, ◌∙◌}
 use mathlib.Core.Bool.{Bool, true, false, ◌&&◌, ◌||◌, not, and-true as and_yes, and-false, or-true}
@@ -10,7 +10,7 @@ use lib.ListN.{length, get_or, set, take, drop, length-append, length-drop, leng
 use lib.Seq.{drop-drop, drop_at, take_at, drop-cons, get_or-drop, get_or-set_same, get_or-set_other}
 use lib.Dec.{eqb, ltb, leb}
 use borrow.Author.Tests.{eqb-true, ltb-true, lt-ltb, le-ltb, ltb-false, le-leb, lt-leb, eq-eqb, ne_eqb}
-use Rattle.model.specs.Answers.{Outcome, refused}
+use Rattle.model.specs.Answers.{Outcome, refused, refused_by}
 use Rattle.model.specs.Choice.{any_below}
 use Rattle.model.specs.Names.{is_letter, all_name_bytes, is_name, alike, same_name, Line, joined, lines_of, no_line, line_at, how_many_names, line_with, symbol_of, is_listed, line_ground, names_then}
 use Rattle.model.proofs.Choice.{and_true, no_fault, fault_refused, none_more, any_none, any_true, is_false, not_both}
@@ -25,7 +25,7 @@ use Rattle.chains.proofs.Chains.{chained, chains_begin}
 use Rattle.model.proofs.Lists.{drop_next, same_long}
 use Rattle.names.proofs.Bytes.{caseless_small, inner_first, inner_others, byte_inner, name_inner, outer_no_byte, inner_not_ten, stretch_inner, stretch_split, stretch_all, stretch_named}
 use Rattle.names.specs.NamesIndex.{name_end, name_found, caseless, all_inner, stretch, OnlyListBytes, mix_words, bucket_at, hash_of, bucket_of, Stands, NamesIndexed, Started, NamesAnswer}
-use Rattle.names.specs.declared.NamesCheck.TheVariants.{Faulty, Sound as NamesSound}
+use Rattle.model.specs.declared.Refusal.{Refusal}
 
 pub name_short : (n : List ℕ) → is_name n ≡ true → length n ≤ 24
 name_short n e = let p = name_parts n e in omega (arith, p.short, ap length p.is)
@@ -410,21 +410,22 @@ not_found_listed names name n e f =
 -- ---- the answer
 
 -- a faulty line, and what follows from 'the list keeps to the rules'
-pub faulty_line : {seed : ℕ} {names starts heads next : List ℕ} (k : ℕ) → ((o : Outcome) → refused 17 k ≡ names_then names o) → NamesAnswer seed names starts heads next (Faulty k)
-faulty_line k d = record { decided = d; count = λ n h. never h; known = λ n h. never h }
+pub faulty_line : {seed : ℕ} {names starts heads next : List ℕ} {r : Refusal} (k : ℕ) → refused_by r ≡ refused 17 k
+    → ((o : Outcome) → refused 17 k ≡ names_then names o) → NamesAnswer seed names starts heads next (Err r)
+faulty_line {r = r} k e d = record { decided = λ o. e ∙ d o; count = λ n h. never h; known = λ n h. never h }
   where
-    never : {A : Type 0} {n : ℕ} → Faulty k ≡ NamesSound n → A
+    never : {A : Type 0} {n : ℕ} → (let x : Result ℕ Refusal = Err r in x ≡ Ok n) → A
     never h = let z : ◌≡◌ {A = ℕ} 0 1 = cc in absurd (omega arith)
 
 pub sound_list : {seed : ℕ} {names starts heads next : List ℕ} {n at : ℕ} → Sofar seed names starts heads next n at → length names ≤ at → (n ≡ 0 → ⊥)
-    → NamesAnswer seed names starts heads next (NamesSound n)
+    → NamesAnswer seed names starts heads next (Ok n)
 sound_list {n = n} s ge nz = record {
   decided = all_sound s ge nz;
   count = λ m h. sym (same h) ∙ all_taken s ge;
   known = λ m h. rw (sym (same h)) s.known;
 }
   where
-    same : {m : ℕ} → NamesSound n ≡ NamesSound m → n ≡ m
+    same : {m : ℕ} → (let r : Result ℕ Refusal = Ok n in r ≡ Ok m) → n ≡ m
     same h = cc
 
 -- ---- arrays as they are made

@@ -1,5 +1,6 @@
 -- Names taken by words of eight bytes: compared, found the end of, and hashed. Assumes nothing.
 use Rattle.std.specs.Prelude.{if◌then◌else◌}
+use Rattle.std.specs.List.{list_all}
 use Prim.Native.Nat.{ℕ, zero, suc, ◌+◌, ◌-◌, ◌*◌, ◌/◌, ◌%◌, ◌^◌, ◌<◌, ◌≤◌}
 use mathlib.Core.Path.{◌≡◌, refl, sym, ap, ap₂, ◌∙◌}
 use mathlib.Core.Bool.{Bool, true, false, ◌&&◌}
@@ -14,6 +15,7 @@ use borrow.Author.Tests.{ltb-true, ltb-false}
 use Rattle.model.specs.Table.{same_by}
 use Rattle.model.specs.Names.{all_name_bytes, alike, same_name}
 use Rattle.model.proofs.Bytes.{byte_others}
+use Rattle.model.proofs.Choice.{and_true}
 use Rattle.words.specs.Words.{words_alike, packed, Word, lanes, is_inner, inner_ahead, is_list_byte, foreign}
 use Rattle.words.proofs.Reading.{Bytes, others, taken, dropped, packed_front}
 use Rattle.words.proofs.Alike.{words_list}
@@ -251,25 +253,22 @@ eight_listed names i w p l v z h k m = go (ltb k i) refl
         let s : i + (k - i) ≡ k = omega arith in
         rw (get_or-take 8 (drop i names) (k - i) 0 (omega arith), get_or-drop i names (k - i) 0, s) at q
 
+-- one of them
+listed_at : (xs : List ℕ) (i : ℕ) → list_all is_list_byte xs ≡ true → i < length xs → is_list_byte (get_or xs i 0) ≡ true
+listed_at (x ∷ xs) zero e l = (and_true (is_list_byte x) (list_all is_list_byte xs) e).0
+listed_at (x ∷ xs) (suc i) e l = listed_at xs i (and_true (is_list_byte x) (list_all is_list_byte xs) e).1 (omega arith)
+listed_at [] i e l = absurd (omega arith)
+
 pub no_bits : (a b : ℕ) → bit_or a b ≡ 0 → (a ≡ 0) × (b ≡ 0)
 no_bits a b e = (omega (arith, or_add_and a b, and_le_r a b), omega (arith, or_add_and a b, and_le_l a b))
 
-pub not_so : {A : Type 0} → false ≡ true → A
-not_so e = let z : ◌≡◌ {A = ℕ} 0 1 = cc in absurd (omega arith)
-
--- the loop that looks at one byte at a time
-pub one_listed : (names : List ℕ) (from i : ℕ) → ((k : ℕ) → from ≤ k → k < i → is_list_byte (get_or names k 0) ≡ true) → is_list_byte (get_or names i 0) ≡ true
-    → (k : ℕ) → from ≤ k → k < i + 1 → is_list_byte (get_or names k 0) ≡ true
-one_listed names from i h e k l m = go (ltb k i) refl
-  where
-    go : (t : Bool) → ltb k i ≡ t → is_list_byte (get_or names k 0) ≡ true
-    go true f = h k l (ltb-true k i f)
-    go false f = let s : k ≡ i = omega (arith, ltb-false k i f) in rw s e
-
--- the bytes before i, and those from there on
-pub two_parts : (names : List ℕ) (i : ℕ) → ((k : ℕ) → k < i → is_list_byte (get_or names k 0) ≡ true) → OnlyListBytes i names → OnlyListBytes 0 names
+-- the bytes before i, and those from there on, one by one
+pub two_parts : (names : List ℕ) (i : ℕ) → ((k : ℕ) → k < i → is_list_byte (get_or names k 0) ≡ true) → list_all is_list_byte (drop i names) ≡ true → OnlyListBytes 0 names
 two_parts names i h o = record { at = λ k l m. go k m (ltb k i) refl }
   where
     go : (k : ℕ) → k < length names → (t : Bool) → ltb k i ≡ t → is_list_byte (get_or names k 0) ≡ true
     go k m true f = h k (ltb-true k i f)
-    go k m false f = o.at k (ltb-false k i f) m
+    go k m false f =
+        let ge = ltb-false k i f in
+        let s : i + (k - i) ≡ k = omega arith in
+        rw (get_or-drop i names (k - i) 0, s) at (listed_at (drop i names) (k - i) o (omega (arith, length-drop i names)))

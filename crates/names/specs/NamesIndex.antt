@@ -1,16 +1,16 @@
 -- The lines of a names list as the code holds them, and the index of names. Assumes nothing: these are definitions.
-use Rattle.std.specs.Prelude.{ℕ, zero, suc, ◌+◌, ◌*◌, ◌/◌, ◌%◌, ◌^◌, ◌<◌, ◌≤◌, ◌≡◌, Bool, true, false, ◌&&◌, List, [], ◌∷◌, map, length, get_or, take, drop, if◌then◌else◌}
-use Rattle.std.specs.Int.Bits.{bit_or, bit_xor}
-use Rattle.model.specs.Answers.{Outcome, refused}
+use Rattle.std.specs.Prelude.{ℕ, zero, suc, ◌+◌, ◌*◌, ◌/◌, ◌%◌, ◌^◌, ◌<◌, ◌≤◌, ◌≡◌, Bool, true, false, ◌&&◌, List, [], ◌∷◌, map, length, get_or, take, drop, if◌then◌else◌, Result, Ok, Err}
+use Rattle.std.specs.Int.Bits.{bit_or}
+use Rattle.model.specs.Answers.{Outcome, refused_by}
 use Rattle.model.specs.Names.{is_name, same_name, line_at, how_many_names, names_then}
 use Rattle.chains.specs.First.{first_with}
 use Rattle.words.specs.Words.{is_inner, is_list_byte, packed}
 use Rattle.chains.specs.Chains.{Chains}
+use Rattle.chains.specs.Digest.{mixed_by}
 use Rattle.std.specs.Prelude.{Option}
 use Rattle.std.specs.Prelude.{Some, None}
 use Rattle.names.specs.declared.Stretch.{Stretch}
-use Rattle.names.specs.declared.NamesCheck.{NamesCheck}
-use Rattle.names.specs.declared.NamesCheck.TheVariants.{Sound, Faulty}
+use Rattle.model.specs.declared.Refusal.{Refusal}
 
 -- where the name of the line that begins at `at` ends; nothing where the line is no name, or byte 10 does not follow
 unfoldable pub name_end : List ℕ → ℕ → Option ℕ
@@ -31,11 +31,8 @@ abbrev pub front_of : (n w : ℕ) → ℕ
 front_of n w = bit_or w 0x2020_2020_2020_2020 % 256 ^ n
 
 -- one word more in a hash
-abbrev pub product : (h w : ℕ) → ℕ
-product h w = bit_xor (bit_xor h w % 4294967296 * 2146121005) (w / 4294967296 * 1540483477)
-
 unfoldable pub mixed : (h w : ℕ) → ℕ
-mixed h w = bit_xor (product h w) (product h w / 4294967296)
+mixed h w = mixed_by 2146121005 1540483477 h w
 
 -- k words of eight bytes, and what is left of the bytes as a last one
 unfoldable pub mix_words : (k h : ℕ) → List ℕ → ℕ
@@ -105,13 +102,13 @@ pub record Started (starts : List ℕ) : Type 0 where
   pub long : length starts ≡ 256
   pub first : get_or starts 0 0 ≡ 0
 
--- refusal 17, or what follows where the list keeps to the rules
-abbrev pub names_check_then : NamesCheck → Outcome → Outcome
-names_check_then (Sound n) otherwise = otherwise
-names_check_then (Faulty k) otherwise = refused 17 k
+-- the refusal, or what follows where the list keeps to the rules
+abbrev pub names_check_then : Result ℕ Refusal → Outcome → Outcome
+names_check_then (Ok n) otherwise = otherwise
+names_check_then (Err r) otherwise = refused_by r
 
 -- the answer decides 17; where the list keeps to the rules, all its lines are known
-pub record NamesAnswer (seed : ℕ) (names starts heads next : List ℕ) (r : NamesCheck) : Type 0 where
+pub record NamesAnswer (seed : ℕ) (names starts heads next : List ℕ) (r : Result ℕ Refusal) : Type 0 where
   pub decided : (o : Outcome) → names_check_then r o ≡ names_then names o
-  pub count : (n : ℕ) → r ≡ Sound n → n ≡ how_many_names names
-  pub known : (n : ℕ) → r ≡ Sound n → NamesIndexed seed names starts heads next n
+  pub count : (n : ℕ) → r ≡ Ok n → n ≡ how_many_names names
+  pub known : (n : ℕ) → r ≡ Ok n → NamesIndexed seed names starts heads next n

@@ -7,15 +7,9 @@ ghost use Rattle.chains.specs.Chains.{Clear};
 ghost use Rattle.words.specs.Words.{is_list_byte};
 ghost use Rattle.names.specs.NamesIndex.{caseless, all_inner, stretch, front_of, mixed, bucket_at, StretchFrom, OnlyListBytes, name_end, name_found, Lined, Sought, Started, NamesAnswer};
 
-use chains::wide;
+use chains::mixed;
+use model::{Kind, Refusal, refuse};
 use words::{foreign_bytes, inner_ahead, word_at, word_or_rest, words_alike};
-
-// What checking a names list finds: it keeps to the rules, and how many names it has, or the first faulty line.
-#[derive(Clone, Copy)]
-pub enum NamesCheck {
-    Sound(usize),
-    Faulty(usize),
-}
 
 // Where a stretch of bytes from `-` to `z` ends, and its bucket of the index.
 #[derive(Clone, Copy)]
@@ -24,56 +18,36 @@ pub struct Stretch {
     pub bucket: usize,
 }
 
-// An ASCII letter: a capital one is made small by one bit, and no other byte gets among the small letters by it.
+// An ASCII letter.
 pub fn is_letter(b: u8) -> bool
     ensures { result ≡ is_letter b }
 {
-    let small = b | 32;
-    if small < b'a' {
-        return false;
-    }
-    small <= b'z'
+    b.is_ascii_alphabetic()
 }
 
 // A byte that may stand in a name: a letter, a digit, `-` or `_`.
 pub fn is_name_byte(b: u8) -> bool
     ensures { result ≡ is_name_byte b }
 {
-    if is_letter(b) {
-        return true;
-    }
-    if b < b'0' {
-        return b == b'-';
-    }
-    if b <= b'9' {
-        return true;
-    }
-    b == b'_'
+    is_letter(b) || b.is_ascii_digit() || b == b'-' || b == b'_'
 }
 
 // A byte with the bit set by which a small letter differs from the capital one.
-fn caseless(b: u8) -> u64
-    ensures { (result ≡ caseless b) × (result < 256) }
+fn caseless(b: u8) -> u8
+    ensures { result ≡ caseless b }
 {
-    b as u64 | 32
+    b | 32
 }
 
-// Whether a name is equal to other bytes from `-` to `z`, from a place on, byte by byte. Such bytes are alike just if they are the same with the bit
-// of the case set; byte 127, which is none of them, would be taken for `_`.
-fn same_rest(a: &[u8], b: &[u8], from: usize) -> bool
+// Whether a name is equal to as many bytes from `-` to `z`, byte by byte. Such bytes are alike just if they are the same with the bit of the case
+// set; byte 127, which is none of them, would be taken for `_`.
+fn same_rest(a: &[u8], b: &[u8]) -> bool
     requires a_value { all_name_bytes a.now ≡ true }
     requires b_value { all_inner b.now ≡ true }
-    requires from_in_bounds { (from ≤ length a.now) × (length a.now ≡ length b.now) }
-    ensures { result ≡ same_name (drop from a.now) (drop from b.now) }
+    requires same_len { length a.now ≡ length b.now }
+    ensures { result ≡ same_name a.now b.now }
 {
-    let mut i = from;
-    while i < a.len() {
-        if caseless(a[i]) != caseless(b[i]) {
-            return false;
-        }
-        i += 1;
-    }
-    true
+    a.iter().zip(b).all(|(x, y)| caseless(*x) == caseless(*y))
 }
 
 // Whether a name is equal to other bytes from `-` to `z`: eight bytes at a time, the rest byte by byte.
@@ -85,52 +59,27 @@ fn same_name(a: &[u8], b: &[u8]) -> bool
     if a.len() != b.len() {
         return false;
     }
-    let mut i: usize = 0;
-    while 8 <= a.len() - i {
-        if !words_alike(word_at(a, i), word_at(b, i)) {
+    let words = a.len() / 8;
+    for k in 0..words {
+        if !words_alike(word_at::<8>(a, 8 * k), word_at::<8>(b, 8 * k)) {
             return false;
         }
-        i += 8;
     }
-    same_rest(a, b, i)
+    same_rest(&a[8 * words..], &b[8 * words..])
 }
 
 // Whether all bytes are name bytes.
 fn all_name_bytes(name: &[u8]) -> bool
     ensures { result ≡ all_name_bytes name.now }
 {
-    let mut i: usize = 0;
-    while i < name.len() {
-        if !is_name_byte(name[i]) {
-            return false;
-        }
-        i += 1;
-    }
-    true
+    name.iter().all(|b| is_name_byte(*b))
 }
 
 // A byte that may stand in a names list: a name byte, or byte 10.
 fn is_list_byte(b: u8) -> bool
     ensures { result ≡ is_list_byte b }
 {
-    if is_name_byte(b) {
-        return true;
-    }
-    b == b'\n'
-}
-
-// Whether from a place on only bytes that may stand in a names list do.
-fn list_bytes_rest(names: &[u8], from: usize) -> bool
-    ensures { result ≡ true → OnlyListBytes from names.now }
-{
-    let mut i = from;
-    while i < names.len() {
-        if !is_list_byte(names[i]) {
-            return false;
-        }
-        i += 1;
-    }
-    true
+    is_name_byte(b) || b == b'\n'
 }
 
 // Whether only bytes that may stand in a names list do. A no says nothing: a list above 6,375 bytes, too long for 255 names, is not looked through.
@@ -140,24 +89,19 @@ fn only_list_bytes(names: &[u8]) -> bool
     if 6375 < names.len() {
         return false;
     }
-    let mut marks: u64 = 0;
-    let mut i: usize = 0;
-    while 8 <= names.len() - i {
-        marks = marks | foreign_bytes(word_at(names, i));
-        i += 8;
+    let words = names.len() / 8;
+    let mut marks = 0;
+    for k in 0..words {
+        marks |= foreign_bytes(word_at::<8>(names, 8 * k));
     }
-    if marks != 0 {
-        return false;
-    }
-    list_bytes_rest(names, i)
+    marks == 0 && names[8 * words..].iter().all(|b| is_list_byte(*b))
 }
 
 // One word more in a hash.
 fn mix(h: u64, w: u64) -> u64
     ensures { result ≡ mixed h w }
 {
-    let p = ((h ^ w) % 4294967296) * 2146121005 ^ w / 4294967296 * 1540483477;
-    p ^ p / 4294967296
+    mixed::<2146121005, 1540483477>(h, w)
 }
 
 // The bucket of a hash, one of 512.
@@ -170,17 +114,15 @@ fn bucket(h: u64) -> usize
 // A seed for the hash, from the list's bytes, sixteen at a time, up to the 6,368th. No answer depends on it; names that share a bucket by one seed
 // do not by another.
 pub fn list_seed(names: &[u8]) -> u64 {
-    let mut seed: u64 = 0;
-    let mut i: usize = 0;
-    while i < 6368 {
+    let mut seed = 0;
+    for i in (0..6368).step_by(16) {
         if names.len() < i + 16 {
-            return seed;
+            break;
         }
         seed = mix(
-            seed ^ mix(i as u64, word_at(names, i + 8)),
-            word_at(names, i),
+            seed ^ mix(i as u64, word_at::<8>(names, i + 8)),
+            word_at::<8>(names, i),
         );
-        i += 16;
     }
     seed
 }
@@ -219,10 +161,7 @@ fn named(name: &[u8], clean: bool) -> bool
     requires { clean ≡ true → all_name_bytes name.now ≡ true }
     ensures { result ≡ all_name_bytes name.now }
 {
-    if clean {
-        return true;
-    }
-    all_name_bytes(name)
+    clean || all_name_bytes(name)
 }
 
 // Where the name of the line that begins at `at` ends, if the line is a name followed by byte 10; `end` is where the stretch from there ends, and
@@ -246,9 +185,10 @@ fn name_end(names: &[u8], clean: bool, at: usize, end: usize) -> Option<usize>
         return None;
     }
     if is_letter(names[at]) {
-        return Some(end);
+        Some(end)
+    } else {
+        None
     }
-    None
 }
 
 // The name on a line, as a part of the list.
@@ -257,8 +197,8 @@ pub fn name_at<'a>(names: &'a [u8], starts: &[u16; 256], n: usize, k: usize) -> 
     requires k_lt_n { k < n }
     ensures { result.now ≡ (line_at names.now k).bytes }
 {
-    let from = wide(starts[k]);
-    let end = wide(starts[k + 1]) - 1;
+    let from = usize::from(starts[k]);
+    let end = usize::from(starts[k + 1]) - 1;
     &names[from..end]
 }
 
@@ -276,43 +216,44 @@ pub fn find_name(
     requires name_value { all_inner name.now ≡ true }
     ensures { result ≡ name_found names.now n name.now }
 {
-    let mut p = wide(heads[b]);
+    let mut p = usize::from(heads[b]);
     while 0 < p {
         let k = p - 1;
         if same_name(name_at(names, starts, n, k), name) {
             return Some(k);
         }
-        p = wide(next[k]);
+        p = usize::from(next[k]);
     }
     None
 }
 
-// Finds the first faulty line. Where there is none, `starts` then holds where each line begins, and `heads` and `next` index the names.
+// How many names the list has, or refusal 17 at the first faulty line. Where there is none, `starts` then holds where each line begins, and `heads`
+// and `next` index the names.
 pub fn check_names(
     names: &[u8],
     seed: u64,
     starts: &mut [u16; 256],
     heads: &mut [u16; 512],
     next: &mut [u16; 256],
-) -> NamesCheck
+) -> Result<usize, Refusal>
     requires started { Started starts.old }
     requires clear { Clear 512 256 heads.old next.old }
     ensures { NamesAnswer seed names.now starts.new heads.new next.new result }
 {
     let clean = only_list_bytes(names);
-    let mut n: usize = 0;
-    let mut at: usize = 0;
+    let mut n = 0;
+    let mut at = 0;
     while at < names.len() {
         if 255 <= n {
-            return NamesCheck::Faulty(n);
+            return Err(refuse(Kind::FaultyNames, n as u64));
         }
         let stretch = stretch_at(names, at, seed);
         let Some(end) = name_end(names, clean, at, stretch.end) else {
-            return NamesCheck::Faulty(n);
+            return Err(refuse(Kind::FaultyNames, n as u64));
         };
         let b = stretch.bucket;
         if let Some(_) = find_name(names, &*starts, &*heads, &*next, n, b, &names[at..end]) {
-            return NamesCheck::Faulty(n);
+            return Err(refuse(Kind::FaultyNames, n as u64));
         }
         next[n] = heads[b];
         n += 1;
@@ -321,7 +262,7 @@ pub fn check_names(
         starts[n] = at as u16;
     }
     if n == 0 {
-        return NamesCheck::Faulty(0);
+        return Err(refuse(Kind::FaultyNames, 0));
     }
-    NamesCheck::Sound(n)
+    Ok(n)
 }

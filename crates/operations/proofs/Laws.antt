@@ -7,7 +7,6 @@ use native.Mathlib.Omega.{arith}
 use native.Mathlib.Decide.{dec_le}
 use native.Mathlib.Nat.{lt_of_not-le}
 use lib.ListN.{length, get_or, take, replicate, length-replicate, get_or-replicate, get_or-eq_default}
-use lib.Seq.{length-take-le}
 use lib.Dec.{ltb}
 use borrow.Author.Tests.{ltb-true}
 use mathlib.Core.Bool.{Bool, true, false, not}
@@ -236,11 +235,6 @@ module _ {prepare : Bool} {states : ℕ} {rows accepting words heads first count
             answer = w.answer ∙ y.0 ∙ follows;
             list = w.list ∙ y.1 ∙ ap (λ (o : Outcome). lent_after o (tree_entries (table_of states rows accepting) number) old) (y.0 ∙ follows);
           }
-
--- the words of the rows: a part of the array, as long as there are rows
-pub part_long : {prepare : Bool} {states : ℕ} {rows accepting words heads first counts sums : List ℕ} {o : Result Checked Refusal}
-    → CheckAnswer prepare states rows accepting words heads first counts sums o → (t n by : ℕ) → o ≡ Ok (record { total = t; rows = n; by = by }) → n ≡ length (take n words)
-part_long {words = words} a t n by e = sym (length-take-le n words (a.passed (record { total = t; rows = n; by = by }) e).long)
 
 -- a task that is known prepares
 pub prepares_so : {task known : Task} {prepare : Bool} → prepare ≡ task_prepares task → task ≡ known → task_prepares known ≡ true → prepare ≡ true

@@ -1,15 +1,17 @@
 // The operations on a table: checking it, numbering a tree, writing the tree of a number. What they set up stands here once for each size of table.
 #![tactic(auto)]
 
-ghost use Rattle.std.specs.Prelude.{◌≡◌, ◌≤◌, length};
+ghost use Rattle.std.specs.Prelude.{◌≡◌, ◌≤◌, ◌<◌, length};
 ghost use Rattle.model.specs.Answers.{outcome};
 ghost use Rattle.model.specs.Check.{check_outcome};
 ghost use Rattle.model.specs.Number.{number_outcome};
+ghost use Rattle.rows.specs.Walk.{Room};
 ghost use Rattle.operations.specs.Answered.{task_prepares, Answered, WroteTree};
 
 use model::Answer;
 
 // What is asked of a table: its total, the number of the tree that is lent, or the tree of a number.
+// (An enum, told apart in one match: as three closures, each would have to state again all that the check leaves.)
 #[derive(Clone, Copy)]
 enum Task {
     Check,
@@ -24,12 +26,12 @@ fn prepares(task: Task) -> bool
     match task {
         Task::Check => false,
         Task::Number => true,
-        Task::Write(number) => false,
+        Task::Write(_) => false,
     }
 }
 
-// Answers for a table of at most 96 rows and 64 states: a row has at least three entries.
-fn answer_small(
+// Answers with room for so many rows and states, and so many buckets.
+fn answer_in<const ROWS: usize, const STATES: usize, const HEADS: usize>(
     task: Task,
     states: u64,
     rows: &[u16],
@@ -37,17 +39,20 @@ fn answer_small(
     tree: &[u16],
     out: &mut [u16],
 ) -> Answer
-    requires { (length rows.now ≤ 288) × (states ≤ 64) }
+    requires rows_room { Room ROWS (length rows.now) }
+    requires states_room { states ≤ 256 → states ≤ STATES }
+    requires sized { (0 < HEADS) × (HEADS ≤ 65536) }
+    requires few { (ROWS ≤ 1024) × (STATES ≤ 256) }
     ensures { Answered task states rows.now accepting.now tree.now out.old out.new result }
 {
-    let mut words = [0u64; 96];
-    let mut heads = [0u16; 132];
-    let mut first = [0u16; 64];
-    let mut counts = [0u64; 64];
-    let mut marks = [0u64; 64];
-    let mut used = [0u8; 64];
-    let mut sums = [0u64; 96];
-    match table::check_into(
+    let mut words = [0u64; ROWS];
+    let mut heads = [0u16; HEADS];
+    let mut first = [0u16; STATES];
+    let mut counts = [0u64; STATES];
+    let mut marks = [0u64; STATES];
+    let mut used = [0u8; STATES];
+    let mut sums = [0u64; ROWS];
+    let checked = table::check_into(
         prepares(task),
         states,
         rows,
@@ -59,155 +64,34 @@ fn answer_small(
         &mut marks,
         &mut used,
         &mut sums,
-    ) {
-        Err(refusal) => Err(refusal),
-        Ok(checked) => match task {
-            Task::Check => Ok(checked.total),
-            Task::Number => rank::number_prepared(
-                rows,
-                accepting,
-                tree,
-                &words[..checked.rows],
-                &heads,
-                checked.by,
-                &counts,
-                &sums,
-            ),
-            Task::Write(number) => unrank::write_prepared(
-                rows,
-                accepting,
-                &words[..checked.rows],
-                &first,
-                &counts,
-                &sums,
-                checked.total,
-                number,
-                out,
-            ),
-        },
+    )?;
+    match task {
+        Task::Check => Ok(checked.total),
+        Task::Number => rank::number_prepared(
+            rows,
+            accepting,
+            tree,
+            &words[..checked.rows],
+            &heads,
+            checked.by,
+            &counts,
+            &sums,
+        ),
+        Task::Write(number) => unrank::write_prepared(
+            rows,
+            accepting,
+            &words[..checked.rows],
+            &first,
+            &counts,
+            &sums,
+            checked.total,
+            number,
+            out,
+        ),
     }
 }
 
-// Answers for a table of at most 384 rows.
-fn answer_middle(
-    task: Task,
-    states: u64,
-    rows: &[u16],
-    accepting: &[u16],
-    tree: &[u16],
-    out: &mut [u16],
-) -> Answer
-    requires { length rows.now ≤ 1152 }
-    ensures { Answered task states rows.now accepting.now tree.now out.old out.new result }
-{
-    let mut words = [0u64; 384];
-    let mut heads = [0u16; 528];
-    let mut first = [0u16; 256];
-    let mut counts = [0u64; 256];
-    let mut marks = [0u64; 256];
-    let mut used = [0u8; 256];
-    let mut sums = [0u64; 384];
-    match table::check_into(
-        prepares(task),
-        states,
-        rows,
-        accepting,
-        &mut words,
-        &mut heads,
-        &mut first,
-        &mut counts,
-        &mut marks,
-        &mut used,
-        &mut sums,
-    ) {
-        Err(refusal) => Err(refusal),
-        Ok(checked) => match task {
-            Task::Check => Ok(checked.total),
-            Task::Number => rank::number_prepared(
-                rows,
-                accepting,
-                tree,
-                &words[..checked.rows],
-                &heads,
-                checked.by,
-                &counts,
-                &sums,
-            ),
-            Task::Write(number) => unrank::write_prepared(
-                rows,
-                accepting,
-                &words[..checked.rows],
-                &first,
-                &counts,
-                &sums,
-                checked.total,
-                number,
-                out,
-            ),
-        },
-    }
-}
-
-// Answers for a table of any size.
-fn answer_full(
-    task: Task,
-    states: u64,
-    rows: &[u16],
-    accepting: &[u16],
-    tree: &[u16],
-    out: &mut [u16],
-) -> Answer
-    ensures { Answered task states rows.now accepting.now tree.now out.old out.new result }
-{
-    let mut words = [0u64; 1024];
-    let mut heads = [0u16; 1408];
-    let mut first = [0u16; 256];
-    let mut counts = [0u64; 256];
-    let mut marks = [0u64; 256];
-    let mut used = [0u8; 256];
-    let mut sums = [0u64; 1024];
-    match table::check_into(
-        prepares(task),
-        states,
-        rows,
-        accepting,
-        &mut words,
-        &mut heads,
-        &mut first,
-        &mut counts,
-        &mut marks,
-        &mut used,
-        &mut sums,
-    ) {
-        Err(refusal) => Err(refusal),
-        Ok(checked) => match task {
-            Task::Check => Ok(checked.total),
-            Task::Number => rank::number_prepared(
-                rows,
-                accepting,
-                tree,
-                &words[..checked.rows],
-                &heads,
-                checked.by,
-                &counts,
-                &sums,
-            ),
-            Task::Write(number) => unrank::write_prepared(
-                rows,
-                accepting,
-                &words[..checked.rows],
-                &first,
-                &counts,
-                &sums,
-                checked.total,
-                number,
-                out,
-            ),
-        },
-    }
-}
-
-// Answers with as much room as the table needs.
+// Answers with as much room as the table needs: a row has at least three entries, and a table with more than 1,024 rows or 256 states is refused.
 fn answer(
     task: Task,
     states: u64,
@@ -219,14 +103,12 @@ fn answer(
     ensures { Answered task states rows.now accepting.now tree.now out.old out.new result }
 {
     if 1152 < rows.len() {
-        return answer_full(task, states, rows, accepting, tree, out);
+        return answer_in::<1024, 256, 1408>(task, states, rows, accepting, tree, out);
     }
-    if states <= 64 {
-        if rows.len() <= 288 {
-            return answer_small(task, states, rows, accepting, tree, out);
-        }
+    if states <= 64 && rows.len() <= 288 {
+        return answer_in::<96, 64, 132>(task, states, rows, accepting, tree, out);
     }
-    answer_middle(task, states, rows, accepting, tree, out)
+    answer_in::<384, 256, 528>(task, states, rows, accepting, tree, out)
 }
 
 // Checks a table and gives its total.

@@ -1,4 +1,5 @@
 -- A node's value from those of its children. Assumes nothing.
+use Rattle.std.specs.Prelude.{Some, None}
 use Prim.Native.Nat.{ℕ, zero, suc, ◌+◌, ◌*◌, ◌<◌, ◌≤◌, pred}
 use mathlib.Core.Path.{◌≡◌, refl, sym, ap, ◌∙◌}
 use mathlib.Core.List.{List, [], ◌∷◌, map}
@@ -12,14 +13,12 @@ use Rattle.model.specs.Value.{horner}
 use Rattle.model.specs.Check.{count_limit}
 use Rattle.model.proofs.Lists.{drop_next}
 use Rattle.model.proofs.Values.{ValuesBelow, none_below, also_below, below_length, horner_from, horner_less}
-use Rattle.std.specs.Prelude.{Some, None}
 use Rattle.chains.proofs.First.{first_is}
 use Rattle.rows.specs.Words.{row_no, rows_in, target_in}
 use Rattle.rows.proofs.Words.{rows_long, row_held_lem}
 use Rattle.index.specs.Index.{row_found}
 use Rattle.counts.specs.Chain.{target}
 use Rattle.counts.specs.States.{held}
-use Rattle.rank.specs.declared.Node.TheVariants.{Reaches, Stuck}
 use Rattle.rank.specs.Machine.{formed, node_of}
 use Rattle.rank.specs.RankReady.{ValuesFit, Foldable, Formable, Closable}
 
@@ -59,8 +58,8 @@ module _ {cs xs vs : List ℕ} {h i : ℕ} (f : Folding cs xs vs h i) (l : i < l
   unfolding horner
   next_same = rw (drop_next xs i l, drop_next vs i (omega arith)) at f.same
 
-  pub fold_goes : (x h' : ℕ) → x ≡ get_or xs i 0 → h' ≡ h * held cs x + get_or vs i 0 → Folding cs xs vs h' (i + 1)
-  fold_goes x h' e d = record { within = omega arith; same = rw (d, e) next_same }
+  pub fold_goes : (x : ℕ) → x ≡ get_or xs i 0 → Folding cs xs vs (h * held cs x + get_or vs i 0) (i + 1)
+  fold_goes x e = record { within = omega arith; same = rw e next_same }
 
   pub fold_fits : (x : ℕ) → x ≡ get_or xs i 0 → Foldable cs xs vs → h * held cs x + get_or vs i 0 ≤ count_limit
   fold_fits x e b =
@@ -86,13 +85,13 @@ module _ (pool words : List ℕ) (s : ℕ) (xs : List ℕ) (k : ℕ) (found : ro
   node_forms cs sums vs b q e = rw (found_target q e) (b k found)
 
   pub node_reaches : (cs sums vs : List ℕ) (q v : ℕ) → q ≡ target_in (get_or words k 0) → v ≡ formed cs sums xs vs k q
-      → Reaches q v ≡ node_of (rows_in pool words) cs sums s xs vs
+      → Some (q, v) ≡ node_of (rows_in pool words) cs sums s xs vs
   unfolding node_of
   node_reaches cs sums vs q v e d =
       let t = found_target q e in
-      rw found (λ j. Reaches (t j) ((d ∙ ap (formed cs sums xs vs k) t) j))
+      rw found (λ j. Some (t j, (d ∙ ap (formed cs sums xs vs k) t) j))
 
-pub node_stuck : (rows : List Row) (cs sums : List ℕ) (s : ℕ) (xs vs : List ℕ) → row_found rows s xs ≡ None → Stuck ≡ node_of rows cs sums s xs vs
+pub node_stuck : (rows : List Row) (cs sums : List ℕ) (s : ℕ) (xs vs : List ℕ) → row_found rows s xs ≡ None → None ≡ node_of rows cs sums s xs vs
 unfolding node_of
 node_stuck rows cs sums s xs vs e = rw e
 

@@ -1,4 +1,5 @@
 -- The arrays as stacks, while the entries of a tree are taken in turn. Assumes nothing.
+use Rattle.std.specs.Prelude.{Some, None, Ok, Err, Option}
 use Prim.Native.Nat.{ℕ, zero, suc, ◌+◌, ◌*◌, ◌-◌, ◌<◌, ◌≤◌, max}
 use mathlib.Core.Path.{◌≡◌, refl, sym, ap, ◌∙◌}
 use mathlib.Core.Bool.{true, false, ◌&&◌, ◌||◌}
@@ -24,8 +25,6 @@ use Rattle.model.proofs.Lists.{drop_next}
 use Rattle.model.proofs.Rows.{row_is_true}
 use Rattle.model.proofs.Values.{horner_less}
 use Rattle.model.proofs.Entries.{well_formed, open_bound, tree_then_taken}
-use Rattle.std.specs.Prelude.{Option}
-use Rattle.std.specs.Prelude.{Some, None}
 use Rattle.chains.proofs.First.{first_is}
 use Rattle.rows.specs.Words.{row_no, rows_in}
 use Rattle.rows.proofs.Words.{rows_long}
@@ -34,11 +33,9 @@ use Rattle.counts.specs.Chain.{target}
 use Rattle.counts.specs.States.{held}
 use Rattle.tree.specs.Reading.{fresh, step_of}
 use Rattle.tree.specs.declared.Reading.{Reading}
-use Rattle.tree.specs.declared.Step.TheVariants.{Opens, Closes, Refuses}
+use Rattle.tree.specs.declared.Step.TheVariants.{Opens, Closes}
 use Rattle.tree.proofs.Laws.{Read, refusing, opens_by, closes_by, opened, shut, refused_here, begins as read_begins}
-use Rattle.rank.specs.declared.Node.{Node}
-use Rattle.rank.specs.declared.Node.TheVariants.{Reaches, Stuck}
-use Rattle.rank.specs.Machine.{formed, node_by, node_of, numbered, run, machine}
+use Rattle.rank.specs.Machine.{Node, formed, node_by, node_of, numbered, run, machine}
 use Rattle.rank.specs.RankReady.{ValuesFit, Closable, Summable, AllCount, RankReady, StackRoom}
 use Rattle.rank.proofs.Folding.{valued_below, unformed, formed_is}
 
@@ -85,24 +82,24 @@ module _ (node : ℕ → List ℕ → List ℕ → Node) (end : ℕ → ℕ → 
   run_end = refl
 
   module _ (s b e : ℕ) (es : List ℕ) (z : eqb e 0 ≡ true) where
-    pub run_close : (q v : ℕ) → node s (drop b ws) (drop b vs) ≡ Reaches q v
+    pub run_close : (q v : ℕ) → node s (drop b ws) (drop b vs) ≡ Some (q, v)
         → run node end (s ∷ opens) (b ∷ begins) ws vs p (e ∷ es) ≡ run node end opens begins (take b ws ++ (q ∷ [])) (take b vs ++ (v ∷ [])) (p + 1) es
     unfolding run
     run_close q v h = rw (z, h)
 
-    pub run_stuck : node s (drop b ws) (drop b vs) ≡ Stuck → run node end (s ∷ opens) (b ∷ begins) ws vs p (e ∷ es) ≡ refused 14 p
+    pub run_stuck : node s (drop b ws) (drop b vs) ≡ None → run node end (s ∷ opens) (b ∷ begins) ws vs p (e ∷ es) ≡ refused 14 p
     unfolding run
     run_stuck h = rw (z, h)
 
 -- ---- one entry of the reading
 
-pub step_opens : (s t : Reading) (e : ℕ) → step_of s e ≡ Opens t → (eqb e 0 ≡ false) × (t.depth ≡ suc s.depth)
+pub step_opens : (s t : Reading) (e : ℕ) → step_of s e ≡ Ok (Opens t) → (eqb e 0 ≡ false) × (t.depth ≡ suc s.depth)
 unfolding step_of
 step_opens s t e p =
     let h = opens_by (refusing s e) (eqb e 0) _ _ _ t p in
     (h.1, ap (λ (r : Reading). r.depth) h.2 ∙ add-one s.depth)
 
-pub step_closes : (s t : Reading) (e : ℕ) → step_of s e ≡ Closes t → (eqb e 0 ≡ true) × (s.depth ≡ suc t.depth)
+pub step_closes : (s t : Reading) (e : ℕ) → step_of s e ≡ Ok (Closes t) → (eqb e 0 ≡ true) × (s.depth ≡ suc t.depth)
 unfolding step_of
 step_closes s t e p =
     let h = closes_by (refusing s e) (eqb e 0) _ _ _ t p in
@@ -115,10 +112,12 @@ step_closes s t e p =
 -- ---- a closed node
 
 -- what a node found by its row is
-by_row : (f : Option ℕ) (rows : List Row) (cs sums xs vs : List ℕ) (q v : ℕ) → node_by f rows cs sums xs vs ≡ Reaches q v
+by_row : (f : Option ℕ) (rows : List Row) (cs sums xs vs : List ℕ) (q v : ℕ) → node_by f rows cs sums xs vs ≡ Some (q, v)
     → (k : ℕ) × (f ≡ Some k) × (q ≡ target rows k) × (v ≡ formed cs sums xs vs k (target rows k))
-by_row (Some k) rows cs sums xs vs q v e = (k, refl, cc, cc)
-by_row None rows cs sums xs vs q v e = let z : ◌≡◌ {A = ℕ} 0 1 = cc in absurd (omega arith)
+by_row (Some k) rows cs sums xs vs q v e =
+    let p : (target rows k, formed cs sums xs vs k (target rows k)) ≡ (q, v) = cc in
+    (k, refl, ap (λ (x : ℕ × ℕ). x.0) (sym p), ap (λ (x : ℕ × ℕ). x.1) (sym p))
+by_row None rows cs sums xs vs q v e = cc
 
 -- what waits: one value for each state; each state has trees, and the value is below its count, or 0 in a state that counts 0
 pub record Children (whole : ℕ → ℕ) (cs xs vs : List ℕ) : Type 0 where
@@ -160,7 +159,7 @@ module _ {by : ℕ} {pool words heads accepting cs sums : List ℕ} (ready : Ran
         }
 
     -- the state has a place and trees, and the value is below its count, or 0
-    node_below : (q v : ℕ) → node_of held_rows cs sums s xs vs ≡ Reaches q v → (q < length cs) × (0 < ready.whole q) × (v < max 1 (held cs q))
+    node_below : (q v : ℕ) → node_of held_rows cs sums s xs vs ≡ Some (q, v) → (q < length cs) × (0 < ready.whole q) × (v < max 1 (held cs q))
     unfolding node_of
     node_below q v e =
         let r = by_row (row_found held_rows s xs) held_rows cs sums xs vs q v e in
@@ -249,7 +248,7 @@ module _ {by : ℕ} {pool words heads accepting cs sums tree opens₀ begins₀ 
     here = rw (drop_next tree i l) at r.same
 
     -- the entry opens a node
-    module _ (t : Reading) (e : step_of s (get_or tree i 0) ≡ Opens t) (well : WellFormed tree) where
+    module _ (t : Reading) (e : step_of s (get_or tree i 0) ≡ Ok (Opens t)) (well : WellFormed tree) where
       open_deep : 2 * t.depth ≤ length tree
       open_deep = let x = opened r.reads l t e in omega (arith, x.depth_is, open_bound tree well (i + 1) x.within)
 
@@ -303,7 +302,7 @@ module _ {by : ℕ} {pool words heads accepting cs sums tree opens₀ begins₀ 
           })
 
     -- the entry closes a node, whose children stand from b on among those that wait
-    module _ (t : Reading) (e : step_of s (get_or tree i 0) ≡ Closes t) (b : ℕ) (at : b ≡ get_or begins t.depth 0) where
+    module _ (t : Reading) (e : step_of s (get_or tree i 0) ≡ Ok (Closes t)) (b : ℕ) (at : b ≡ get_or begins t.depth 0) where
       deeper : s.depth ≡ suc t.depth
       deeper = (step_closes s t (get_or tree i 0) e).1
 
@@ -350,11 +349,11 @@ module _ {by : ℕ} {pool words heads accepting cs sums tree opens₀ begins₀ 
           → node_of rows cs sums (get_or opens t.depth 0) (drop b (take w waiting)) (drop b (take w values)) ≡ o
       parts o h = rw (drop_take b w waiting, drop_take b w values) h
 
-      pub node_sticks : node_of rows cs sums (get_or opens t.depth 0) (take (w - b) (drop b waiting)) (take (w - b) (drop b values)) ≡ Stuck
+      pub node_sticks : node_of rows cs sums (get_or opens t.depth 0) (take (w - b) (drop b waiting)) (take (w - b) (drop b values)) ≡ None
           → refused 14 i ≡ machine rows accepting cs sums tree
       node_sticks h =
           sym (run_stuck (node_of rows cs sums) (numbered accepting cs) (stack_of t.depth opens) (stack_of t.depth begins) (take w waiting) (take w values) i
-          (get_or opens t.depth 0) b (get_or tree i 0) (drop (i + 1) tree) (step_closes s t (get_or tree i 0) e).0 (parts Stuck h))
+          (get_or opens t.depth 0) b (get_or tree i 0) (drop (i + 1) tree) (step_closes s t (get_or tree i 0) e).0 (parts None h))
           ∙ at_bar
 
       -- the front of an array after the store at b
@@ -362,7 +361,7 @@ module _ {by : ℕ} {pool words heads accepting cs sums tree opens₀ begins₀ 
       front xs x lt = rw (add-one b, take-suc-set xs b x lt, take-take b w xs close_under)
 
       pub node_closes : (q v : ℕ)
-          → node_of rows cs sums (get_or opens t.depth 0) (take (w - b) (drop b waiting)) (take (w - b) (drop b values)) ≡ Reaches q v
+          → node_of rows cs sums (get_or opens t.depth 0) (take (w - b) (drop b waiting)) (take (w - b) (drop b values)) ≡ Some (q, v)
           → (waiting' values' : List ℕ) → (waiting' ≡ set waiting b q) × (values' ≡ set values b v)
           → Running by pool words heads accepting cs sums tree opens₀ begins₀ waiting₀ values₀ opens begins waiting' values' (b + 1) t (i + 1)
       node_closes q v h waiting' values' stored =
@@ -391,12 +390,12 @@ module _ {by : ℕ} {pool words heads accepting cs sums tree opens₀ begins₀ 
             same =
                 rw (front waiting q close_room.0, front values v close_room.1)
                 (sym (run_close (node_of rows cs sums) (numbered accepting cs) (stack_of t.depth opens) (stack_of t.depth begins) (take w waiting) (take w values) i
-                (get_or opens t.depth 0) b (get_or tree i 0) (drop (i + 1) tree) (step_closes s t (get_or tree i 0) e).0 q v (parts (Reaches q v) h))
+                (get_or opens t.depth 0) b (get_or tree i 0) (drop (i + 1) tree) (step_closes s t (get_or tree i 0) e).0 q v (parts (Some (q, v)) h))
                 ∙ at_bar);
           })
 
     -- no entry of a tree is refused
-    pub not_refused : (f : Refusal) → step_of s (get_or tree i 0) ≡ Refuses f → WellFormed tree → refused_by f ≡ machine rows accepting cs sums tree
+    pub not_refused : (f : Refusal) → step_of s (get_or tree i 0) ≡ Err f → WellFormed tree → refused_by f ≡ machine rows accepting cs sums tree
     not_refused f e well =
         let z : refused_by f ≡ result 0 = refused_here r.reads l f e (result 0) ∙ tree_then_taken tree well r.reads.few (result 0) in
         let y : ◌≡◌ {A = ℕ} 0 1 = cc in
@@ -408,13 +407,13 @@ module _ {by : ℕ} {pool words heads accepting cs sums tree opens₀ begins₀ 
     unfolding ends_too_soon
     ends = or_false (eqb (length tree) 0) (ltb 0 (open_after 0 tree)) (well_formed tree well).enough
 
-    pub some_read : 1 ≤ i
-    some_read = omega (arith, g, pos_of_ne-zero (eqb-false (length tree) 0 ends.0))
+    pub some_read : 1 ≤ length tree
+    some_read = pos_of_ne-zero (eqb-false (length tree) 0 ends.0)
 
     one_waits : 0 < w
     one_waits =
         let d : s.depth ≡ open_after 0 tree = r.reads.depth_is ∙ ap (open_after 0) (take_all i tree g) in
-        omega (arith, r.some some_read, ltb-false 0 (open_after 0 tree) ends.1)
+        omega (arith, r.some (omega (arith, g, some_read)), ltb-false 0 (open_after 0 tree) ends.1)
 
     pub end_room : (0 < length waiting) × (0 < length values)
     end_room = (omega (arith, one_waits, few_wait.1), omega (arith, one_waits, few_wait.2))
@@ -422,8 +421,9 @@ module _ {by : ℕ} {pool words heads accepting cs sums tree opens₀ begins₀ 
     pub end_sums : Summable accepting cs (get_or waiting 0 0) (get_or values 0 0)
     end_sums = record { below = r.below 0 one_waits; placed = r.ready.placed; small = r.ready.total }
 
-    pub tree_ends : numbered accepting cs (get_or waiting 0 0) (get_or values 0 0) (i - 1) ≡ machine rows accepting cs sums tree
+    pub tree_ends : numbered accepting cs (get_or waiting 0 0) (get_or values 0 0) (length tree - 1) ≡ machine rows accepting cs sums tree
     tree_ends =
+        let full : length tree ≡ i = omega (arith, g, r.reads.within) in
         let h = rw (drop_of_length-le tree {i = i} g) at r.same in
-        rw (get_or-take w waiting 0 0 one_waits, get_or-take w values 0 0 one_waits) at
-        (sym (run_end (node_of rows cs sums) (numbered accepting cs) (stack_of s.depth opens) (stack_of s.depth begins) (take w waiting) (take w values) i) ∙ h)
+        rw full (rw (get_or-take w waiting 0 0 one_waits, get_or-take w values 0 0 one_waits) at
+        (sym (run_end (node_of rows cs sums) (numbered accepting cs) (stack_of s.depth opens) (stack_of s.depth begins) (take w waiting) (take w values) i) ∙ h))

@@ -1,6 +1,6 @@
 -- A good table, its rows in words, with their index, and the counts of its used states, which are within the limits: what numbering needs of it,
 -- and that the machine numbers its trees. Assumes nothing.
-use Rattle.std.specs.Prelude.{if◌then◌else◌}
+use Rattle.std.specs.Prelude.{Some, if◌then◌else◌, Option, None}
 use Prim.Native.Nat.{ℕ, ◌+◌, ◌<◌, ◌≤◌}
 use mathlib.Core.Path.{◌≡◌, refl, sym, ap, ◌∙◌}
 use mathlib.Core.Bool.{Bool, true, false}
@@ -30,8 +30,6 @@ use Rattle.model.proofs.Longest.{row_fits}
 use Rattle.model.proofs.Entries.{formed_well, tree_from_lem}
 use Rattle.model.proofs.Used.{used_args}
 use Rattle.model.proofs.UsedValues.{count_used, count_unused, used_just, just_used, row_used, earlier_used, total_used, formed_used, formed_unused, number_formed}
-use Rattle.std.specs.Prelude.{Option}
-use Rattle.std.specs.Prelude.{Some, None}
 use Rattle.chains.proofs.First.{first_is, first_none}
 use Rattle.rows.specs.Words.{row_no, rows_in, held_table}
 use Rattle.rows.proofs.Words.{rows_long}
@@ -39,7 +37,6 @@ use Rattle.index.specs.Index.{row_found}
 use Rattle.counts.specs.Chain.{target}
 use Rattle.counts.specs.States.{held}
 use Rattle.counts.proofs.Prepared.{as_counted, sum_used}
-use Rattle.rank.specs.declared.Node.TheVariants.{Reaches}
 use Rattle.rank.specs.Machine.{formed, node_by, node_of, numbered, machine}
 use Rattle.rank.specs.RankReady.{AllCount, RankReady, TableReady}
 use Rattle.rank.proofs.Folding.{unformed, formed_is}
@@ -162,7 +159,7 @@ module _ {by states : ℕ} {pool words heads accepting cs sums : List ℕ} (r : 
           let q : target_of T i ≡ target rows i = target_is T w in
           let there : ltb (target_of T i) states ≡ true = rw q (lt-ltb (target rows i) states (row_state i f.0)) in
           let v : formed cs sums xs vs i (target rows i) ≡ formed_value T i vs = value_agrees w vs in
-          rw d ((λ j. Reaches (sym q j) (v j)) ∙ sym (node_yes T i vs there))
+          rw d ((λ j. Some (sym q j, v j)) ∙ sym (node_yes T i vs there))
       go None e =
           let none : ltb (target_of T (row_with rows s xs)) states ≡ false
           = is_false (ltb (target_of T (row_with rows s xs)) states) (λ y. absent (target_inside T (row_with rows s xs) (ltb-true (target_of T (row_with rows s xs)) states y))) in

@@ -1,5 +1,5 @@
 -- What the machine makes of a tree's entries: document 01's refusal 14, or the tree's number, with values in used states only. Assumes nothing.
-use Rattle.std.specs.Prelude.{if◌then◌else◌}
+use Rattle.std.specs.Prelude.{Some, None, if◌then◌else◌}
 use Prim.Native.Nat.{ℕ, suc, ◌+◌, ◌-◌}
 use mathlib.Core.Path.{◌≡◌, refl, sym, ap, ◌∙◌}
 use mathlib.Core.Bool.{Bool, true, false, not}
@@ -19,25 +19,23 @@ use Rattle.model.specs.Used.{used_count, formed_value, formed_values, formed_num
 use Rattle.model.specs.Check.{is_state}
 use Rattle.model.specs.Number.{reaches_none, stuck_then, accepted_then}
 use Rattle.model.proofs.Longest.{forest_length}
-use Rattle.rank.specs.declared.Node.{Node}
-use Rattle.rank.specs.declared.Node.TheVariants.{Reaches, Stuck}
-use Rattle.rank.specs.Machine.{run}
+use Rattle.rank.specs.Machine.{Node, run}
 use Rattle.rank.proofs.Running.{run_open, run_end, run_close, run_stuck}
 
 -- a node's state and value in a table, by its row
 unfoldable pub row_node : Table → ℕ → (vs : List ℕ) → Node
-row_node T i vs = if is_state T.states (target_of T i) then Reaches (target_of T i) (formed_value T i vs) else Stuck
+row_node T i vs = if is_state T.states (target_of T i) then Some (target_of T i, formed_value T i vs) else None
 
 -- the number of a state and a value in a table, or 14
 unfoldable pub row_number : Table → (q v place : ℕ) → Outcome
 row_number T q v place =
     if ltb (entry_of T.accepting q) (length T.accepting) then result (v + sum (take (entry_of T.accepting q) (map (used_count T) T.accepting))) else refused 14 place
 
-pub node_yes : (T : Table) (i : ℕ) (vs : List ℕ) → is_state T.states (target_of T i) ≡ true → row_node T i vs ≡ Reaches (target_of T i) (formed_value T i vs)
+pub node_yes : (T : Table) (i : ℕ) (vs : List ℕ) → is_state T.states (target_of T i) ≡ true → row_node T i vs ≡ Some (target_of T i, formed_value T i vs)
 unfolding row_node
 node_yes T i vs e = rw e
 
-pub node_no : (T : Table) (i : ℕ) (vs : List ℕ) → is_state T.states (target_of T i) ≡ false → row_node T i vs ≡ Stuck
+pub node_no : (T : Table) (i : ℕ) (vs : List ℕ) → is_state T.states (target_of T i) ≡ false → row_node T i vs ≡ None
 unfolding row_node
 node_no T i vs e = rw e
 
@@ -61,7 +59,7 @@ module _ (T : Table) (nodes : ℕ → List ℕ → List ℕ → Node) (end : ℕ
             (children _ (node_yes T (row_of T s k) (formed_values T k) e))
             ∙ rw (take_at ws (states_of T k) (length ws) refl, take_at vs (formed_values T k) (length ws) m, add-one bar) after
         go false e =
-            run_stuck nodes end opens begins (ws ++ states_of T k) (vs ++ formed_values T k) bar s (length ws) 0 es refl (children Stuck (node_no T (row_of T s k) (formed_values T k) e))
+            run_stuck nodes end opens begins (ws ++ states_of T k) (vs ++ formed_values T k) bar s (length ws) 0 es refl (children None (node_no T (row_of T s k) (formed_values T k) e))
 
   -- the trees of a forest, one after another
   pub run_forest : (f : Forest) → SymbolsInRange f → (opens begins ws vs : List ℕ) → length vs ≡ length ws → (p : ℕ) (es : List ℕ)

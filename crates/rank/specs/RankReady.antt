@@ -1,9 +1,8 @@
 -- What numbering starts from: bounds that keep every sum and product within the limit. Assumes nothing: these are definitions.
-use Rattle.std.specs.Prelude.{ℕ, ◌+◌, ◌*◌, ◌<◌, ◌≤◌, max, ◌≡◌, List, map, length, get_or}
+use Rattle.std.specs.Prelude.{ℕ, ◌+◌, ◌*◌, ◌<◌, ◌≤◌, max, ◌≡◌, List, map, length, get_or, Some}
 use Rattle.model.specs.Table.{Row}
 use Rattle.model.specs.Count.{sum, product}
 use Rattle.model.specs.Check.{count_limit}
-use Rattle.std.specs.Prelude.{Some}
 use Rattle.index.specs.Index.{Index, row_found}
 use Rattle.model.proofs.Good.{Good, Within}
 use Rattle.rows.specs.Words.{row_no, rows_in, nexts, held_table, Held}

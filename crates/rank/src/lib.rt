@@ -12,15 +12,10 @@ ghost use Rattle.counts.specs.States.{held};
 ghost use Rattle.rank.specs.Machine.{formed, node_of, numbered, machine};
 ghost use Rattle.rank.specs.RankReady.{Foldable, Formable, Closable, Summable, RankReady, StackRoom};
 
+use index::RowIndex;
 use model::{Answer, Kind, refuse};
-use tree::{Form, Reading, Step};
-
-// What closing a node gives: the state that the tree reaches and its value there; or that it reaches none.
-#[derive(Clone, Copy)]
-enum Node {
-    Reaches(u16, u64),
-    Stuck,
-}
+use rows::Rows;
+use tree::{Reading, Step};
 
 // The children's values as one: for each child from the first, multiply by the count of its state and add its value.
 fn fold(states: &[u16], values: &[u64], counts: &[u64]) -> u64
@@ -28,10 +23,8 @@ fn fold(states: &[u16], values: &[u64], counts: &[u64]) -> u64
     ensures { result ≡ horner (held counts.now) 0 states.now values.now }
 {
     let mut h: u64 = 0;
-    let mut i: usize = 0;
-    while i < states.len() {
-        h = h * counts[chains::wide(states[i])] + values[i];
-        i += 1;
+    for (i, q) in states.iter().enumerate() {
+        h = h * counts[usize::from(*q)] + values[i];
     }
     h
 }
@@ -41,37 +34,35 @@ fn value_in(counts: &[u64], sums: &[u64], states: &[u16], values: &[u64], k: usi
     requires { Formable counts.now sums.now states.now values.now k q }
     ensures { result ≡ formed counts.now sums.now states.now values.now k q }
 {
-    if counts[chains::wide(q)] == 0 {
+    if counts[usize::from(q)] == 0 {
         return 0;
     }
     fold(states, values, counts) + sums[k]
 }
 
-// The state and the value of a tree with this symbol, whose children have these states and values.
-fn close(
-    pool: &[u16],
-    words: &[u64],
-    heads: &[u16],
+// The state that a tree with this symbol reaches, whose children have these states and values, and its value there; or nothing if it reaches none.
+fn close<'a>(
+    pool: &'a [u16],
+    words: &'a [u64],
+    heads: &'a [u16],
     by: u64,
     counts: &[u64],
     sums: &[u64],
     symbol: u16,
     states: &[u16],
     values: &[u64],
-) -> Node
+) -> Option<(u16, u64)>
     requires held { Held pool.now words.now (length words.now) }
     requires index { Index by (rows_in pool.now words.now) heads.now (nexts words.now) }
     requires closable { Closable (rows_in pool.now words.now) counts.now sums.now symbol states.now values.now }
     ensures { result ≡ node_of (rows_in pool.now words.now) counts.now sums.now
         symbol states.now values.now }
 {
-    match index::find_row(pool, words, heads, by, symbol, states) {
-        Some(k) => {
-            let q = rows::target_in(words[k]);
-            Node::Reaches(q, value_in(counts, sums, states, values, k, q))
-        }
-        None => Node::Stuck,
-    }
+    let rows = Rows { pool, words };
+    let index = RowIndex { rows, heads, by };
+    let k = index.find(symbol, states)?;
+    let q = rows::target_in(words[k]);
+    Some((q, value_in(counts, sums, states, values, k, q)))
 }
 
 // The number of a tree with this state and value; 14 at the given place if the state is not listed. The value is added last, so that no sum
@@ -81,14 +72,12 @@ fn number_in(accepting: &[u16], counts: &[u64], q: u16, value: u64, place: usize
     ensures { outcome result ≡ numbered accepting.now counts.now q value place }
 {
     let mut earlier: u64 = 0;
-    let mut i: usize = 0;
-    while i < accepting.len() {
-        if accepting[i] == q {
+    for a in accepting {
+        if *a == q {
             let number = value + earlier;
             return Ok(number);
         }
-        earlier += counts[chains::wide(accepting[i])];
-        i += 1;
+        earlier += counts[usize::from(*a)];
     }
     Err(refuse(Kind::NotAccepted, place as u64))
 }
@@ -135,18 +124,17 @@ fn number_tree(
 {
     let mut w: usize = 0;
     let mut s = Reading::new();
-    let mut i: usize = 0;
-    while i < tree.len() {
-        match s.entry(tree[i]) {
+    for (i, e) in tree.iter().enumerate() {
+        // no entry of a tree is refused
+        match s.entry(*e)? {
             Step::Opens(t) => {
-                open_node(opens, begins, t.depth - 1, tree[i], w);
+                open_node(opens, begins, t.depth - 1, *e, w);
                 s = t;
-                i += 1;
             }
             Step::Closes(t) => {
                 let d = t.depth;
-                let b = chains::wide(begins[d]);
-                match close(
+                let b = usize::from(begins[d]);
+                let Some((q, v)) = close(
                     pool,
                     words,
                     heads,
@@ -156,25 +144,16 @@ fn number_tree(
                     opens[d],
                     &waiting[b..w],
                     &values[b..w],
-                ) {
-                    Node::Reaches(q, v) => {
-                        store_closed(waiting, values, b, q, v);
-                        w = b + 1;
-                        s = t;
-                        i += 1;
-                    }
-                    Node::Stuck => {
-                        return Err(refuse(Kind::NotAccepted, i as u64));
-                    }
-                }
-            }
-            // not reached: no entry of a tree is refused
-            Step::Refuses(r) => {
-                return Err(r);
+                ) else {
+                    return Err(refuse(Kind::NotAccepted, i as u64));
+                };
+                store_closed(waiting, values, b, q, v);
+                w = b + 1;
+                s = t;
             }
         }
     }
-    number_in(accepting, counts, waiting[0], values[0], i - 1)
+    number_in(accepting, counts, waiting[0], values[0], tree.len() - 1)
 }
 
 // The number of a tree of at most 4,096 entries: at most 2,048 nodes are open or waiting.
@@ -230,8 +209,6 @@ pub fn number_prepared(
     ensures { outcome result ≡ tree_then tree.now (machine (rows_in pool.now words.now) accepting.now
         counts.now sums.now tree.now) }
 {
-    match tree::check_tree(tree) {
-        Form::Refuses(r) => Err(r),
-        Form::Tree => number_formed(pool, accepting, tree, words, heads, by, counts, sums),
-    }
+    tree::check_tree(tree)?;
+    number_formed(pool, accepting, tree, words, heads, by, counts, sums)
 }

@@ -132,5 +132,7 @@ module _ {text : List ℕ} {r : TextState} {i : ℕ} (x : Read text r i) (ge : l
   pub is_term : may_end (seen r) ≡ true → None ≡ place_of (scanned text)
   is_term e = ap (λ (s : term.Scan). place_of s) (rw e at at_end)
 
-  pub too_soon : may_end (seen r) ≡ false → Some i ≡ place_of (scanned text)
-  too_soon e = ap (λ (s : term.Scan). place_of s) (rw e at at_end)
+  pub too_soon : may_end (seen r) ≡ false → Some (length text) ≡ place_of (scanned text)
+  too_soon e =
+      let l : length text ≡ i = omega (arith, x.within) in
+      ap (λ (k : ℕ). place_of (term.breaks_at k)) l ∙ ap (λ (s : term.Scan). place_of s) (rw e at at_end)

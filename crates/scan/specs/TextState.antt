@@ -1,12 +1,8 @@
 -- The states in which the code reads a text, as document 01's definitions have them. Assumes nothing: these are definitions.
-use Rattle.std.specs.Prelude.{ℕ, List}
+use Rattle.std.specs.Prelude.{ℕ, List, Option, Some, None}
 use Rattle.model.specs.Term as term
-use Rattle.std.specs.Prelude.{Option}
-use Rattle.std.specs.Prelude.{Some, None}
 use Rattle.scan.specs.declared.TextState.{TextState}
 use Rattle.scan.specs.declared.TextState.TheVariants.{Due, InName, Closed}
-use Rattle.scan.specs.declared.TextStep.{TextStep}
-use Rattle.scan.specs.declared.TextStep.TheVariants.{GoesOn, Stops}
 
 -- the code's states and steps, as states and steps of document 01's definitions
 abbrev pub seen : TextState → term.ScanState
@@ -14,9 +10,9 @@ seen (Due depth) = term.due depth
 seen (InName depth bytes) = term.in_name depth bytes
 seen (Closed depth) = term.closed depth
 
-abbrev pub seen_step : TextStep → term.ScanStep
-seen_step (GoesOn r) = term.goes_on (seen r)
-seen_step Stops = term.stops
+abbrev pub seen_step : Option TextState → term.ScanStep
+seen_step (Some r) = term.goes_on (seen r)
+seen_step None = term.stops
 
 -- how many brackets are open
 abbrev pub depth_of : term.ScanState → ℕ

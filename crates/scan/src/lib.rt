@@ -18,57 +18,49 @@ pub enum TextState {
     Closed(usize),
 }
 
-// The next byte is taken, or no term can go on with it.
-#[derive(Clone, Copy)]
-pub enum TextStep {
-    GoesOn(TextState),
-    Stops,
-}
-
-// Reads the byte after a whole term.
-fn after_term(depth: usize, b: u8) -> TextStep
+// Reads the byte after a whole term; nothing where no term can go on with it.
+fn after_term(depth: usize, b: u8) -> Option<TextState>
     ensures { seen_step result ≡ after_term depth b }
 {
     if depth == 0 {
-        return TextStep::Stops;
+        return None;
     }
-    if b == b',' {
-        return TextStep::GoesOn(TextState::Due(depth));
+    match b {
+        b',' => Some(TextState::Due(depth)),
+        b')' => Some(TextState::Closed(depth - 1)),
+        _ => None,
     }
-    if b == b')' {
-        return TextStep::GoesOn(TextState::Closed(depth - 1));
-    }
-    TextStep::Stops
 }
 
-// Reads the byte after the first bytes of a name.
-fn after_name(depth: usize, bytes: usize, b: u8) -> TextStep
+// Reads the byte after the first bytes of a name; nothing where no term can go on with it.
+fn after_name(depth: usize, bytes: usize, b: u8) -> Option<TextState>
     requires { depth < 65536 }
     ensures { seen_step result ≡ step (in_name depth bytes) b }
 {
     if is_name_byte(b) {
         if bytes < 24 {
-            return TextStep::GoesOn(TextState::InName(depth, bytes + 1));
+            return Some(TextState::InName(depth, bytes + 1));
         }
-        return TextStep::Stops;
+        return None;
     }
     if b == b'(' {
-        return TextStep::GoesOn(TextState::Due(depth + 1));
+        return Some(TextState::Due(depth + 1));
     }
     after_term(depth, b)
 }
 
-// Reads one byte.
-fn next_byte(r: TextState, b: u8) -> TextStep
+// Reads one byte; nothing where no term can go on with it.
+fn next_byte(r: TextState, b: u8) -> Option<TextState>
     requires { depth_of (seen r) < 65536 }
     ensures { seen_step result ≡ step (seen r) b }
 {
     match r {
         TextState::Due(depth) => {
             if is_letter(b) {
-                return TextStep::GoesOn(TextState::InName(depth, 1));
+                Some(TextState::InName(depth, 1))
+            } else {
+                None
             }
-            TextStep::Stops
         }
         TextState::InName(depth, bytes) => after_name(depth, bytes, b),
         TextState::Closed(depth) => after_term(depth, b),
@@ -92,20 +84,11 @@ pub fn scan_text(text: &[u8]) -> Option<usize>
     ensures { result ≡ place_of (scanned text.now) }
 {
     let mut r = TextState::Due(0);
-    let mut i: usize = 0;
-    while i < text.len() {
-        match next_byte(r, text[i]) {
-            TextStep::GoesOn(n) => {
-                r = n;
-                i += 1;
-            }
-            TextStep::Stops => {
-                return Some(i);
-            }
-        }
+    for (i, b) in text.iter().enumerate() {
+        let Some(next) = next_byte(r, *b) else {
+            return Some(i);
+        };
+        r = next;
     }
-    if may_end(r) {
-        return None;
-    }
-    Some(i)
+    if may_end(r) { None } else { Some(text.len()) }
 }

@@ -1,12 +1,14 @@
 -- Logs, one after another. Assumes nothing.
-use Prim.Native.Nat.{ℕ, zero, suc, ◌+◌, ◌<◌, ◌≤◌}
+use Prim.Native.Nat.{ℕ, zero, suc}
 use mathlib.Core.Path.{◌≡◌, refl, sym, ap, ◌∙◌}
-use mathlib.Core.List.{List, [], ◌∷◌, ◌++◌, map, flat_map, foldl, foldl-append, append-nil, append_assoc}
-use native.Mathlib.Numerals.{add-one}
+use mathlib.Core.List.{List, [], ◌∷◌, ◌++◌, map, flat_map, append-nil, append_assoc}
 use native.Mathlib.Omega.{arith}
-use lib.ListN.{length, get_or, take, drop, drop_of_length-le}
-use lib.Seq.{drop-cons}
-use Rattle.streams.specs.Log.{Entry, byte_read, byte_written, read_returned, adds, read_in, written_in, failures_in, entry_number, with_number, with_entry, digest_after, Logged}
+use lib.ListN.{take}
+use Rattle.std.specs.List.{fold}
+use Rattle.std.proofs.lemmas.List.Sums.{fold-append}
+use Rattle.streams.specs.declared.Entry.{Entry}
+use Rattle.streams.specs.declared.Entry.TheVariants.{ByteRead, ByteWritten, ReadReturned}
+use Rattle.streams.specs.Log.{adds, read_in, written_in, failures_in, with_entry, digest_after, Logged}
 use Rattle.streams.specs.Parts.{OfBytes, one_read, writes}
 
 -- nothing came
@@ -22,28 +24,7 @@ logged_one before after e x = x
 -- more came after some
 pub logged_both : (a : ℕ) {b c : ℕ} (xs ys : List Entry) → Logged a b xs → Logged b c ys → Logged a c (xs ++ ys)
 unfolding digest_after
-logged_both a xs ys e f = f ∙ ap (λ (d : ℕ). foldl with_entry d ys) e ∙ sym (foldl-append with_entry a xs ys)
-
--- bytes whose entries are numbered from a first number on: those up to i are in the digest
-pub record Digested (digest first : ℕ) (bytes : List ℕ) (d i : ℕ) : Type 0 where
-  pub same : (entry : ℕ → Entry) → ((b : ℕ) → entry_number (entry b) ≡ first + b) → digest_after d (map entry (drop i bytes)) ≡ digest_after digest (map entry bytes)
-
-pub digested_first : (digest first : ℕ) (bytes : List ℕ) → Digested digest first bytes digest 0
-digested_first digest first bytes = record { same = λ entry f. refl }
-
-module _ {digest first : ℕ} {bytes : List ℕ} {d i : ℕ} (g : Digested digest first bytes d i) where
-  pub digested_next : (next : ℕ) → i < length bytes → next ≡ with_number d (first + get_or bytes i 0) → Digested digest first bytes next (i + 1)
-  unfolding digest_after
-  digested_next next l e = record {
-    same = λ entry f.
-        rw (add-one i)
-        (ap (λ (x : ℕ). foldl with_entry x (map entry (drop (suc i) bytes))) (e ∙ ap (with_number d) (sym (f (get_or bytes i 0))))
-        ∙ ap (λ (l : List ℕ). foldl with_entry d (map entry l)) (sym (drop-cons bytes i 0 l))
-        ∙ g.same entry f);
-  }
-
-  pub digested_last : length bytes ≤ i → (entry : ℕ → Entry) → ((b : ℕ) → entry_number (entry b) ≡ first + b) → d ≡ digest_after digest (map entry bytes)
-  digested_last l entry f = logged_none d ∙ ap (λ (bs : List ℕ). digest_after d (map entry bs)) (sym (drop_of_length-le bytes l)) ∙ g.same entry f
+logged_both a xs ys e f = f ∙ ap (λ (d : ℕ). fold with_entry d ys) e ∙ sym (fold-append with_entry a xs ys)
 
 -- a part of bytes is of bytes
 pub bytes_front : (n : ℕ) (list : List ℕ) → OfBytes list → OfBytes (take n list)
@@ -100,9 +81,9 @@ passed_one e = record { read = append-nil (adds e).0; written = append-nil (adds
 
 pub passed_writes : (bytes : List ℕ) → Passed (writes bytes) [] bytes []
 passed_writes bytes = record {
-  read = each_none (λ e. (adds e).0) byte_written (λ b. refl) bytes;
-  written = each_all (λ e. (adds e).1) byte_written (λ b. refl) bytes;
-  failed = each_none (λ e. (adds e).2) byte_written (λ b. refl) bytes;
+  read = each_none (λ e. (adds e).0) ByteWritten (λ b. refl) bytes;
+  written = each_all (λ e. (adds e).1) ByteWritten (λ b. refl) bytes;
+  failed = each_none (λ e. (adds e).2) ByteWritten (λ b. refl) bytes;
 }
 
 pub passed_read : (bytes : List ℕ) → Passed (one_read bytes) bytes [] []
@@ -110,8 +91,8 @@ passed_read bytes =
     rw (append-nil bytes) at
     (passed_both
     (record {
-      read = each_all (λ e. (adds e).0) byte_read (λ b. refl) bytes;
-      written = each_none (λ e. (adds e).1) byte_read (λ b. refl) bytes;
-      failed = each_none (λ e. (adds e).2) byte_read (λ b. refl) bytes;
+      read = each_all (λ e. (adds e).0) ByteRead (λ b. refl) bytes;
+      written = each_none (λ e. (adds e).1) ByteRead (λ b. refl) bytes;
+      failed = each_none (λ e. (adds e).2) ByteRead (λ b. refl) bytes;
     })
-    (passed_one read_returned))
+    (passed_one ReadReturned))

@@ -1,24 +1,18 @@
 -- What a program does with standard input and standard output, in order: its log, which is carried as its digest. Assumes nothing: these are
 -- definitions.
-use Rattle.std.specs.Prelude.{ℕ, ◌+◌, ◌*◌, ◌%◌, ◌≡◌}
-use mathlib.Core.List.{List, [], ◌∷◌, flat_map, foldl}
-
-pub data Entry : Type 0 where
-  -- a byte was read; a byte was handed to a write
-  byte_read byte_written : ℕ → Entry
-  -- a read returned, with the bytes before this; one gave no bytes, which is the end of the input; one failed
-  read_returned end_of_input read_failed : Entry
-  -- the last write failed: the bytes that were handed to it are the last before this, and any number of them may have been taken
-  write_failed : Entry
+use Rattle.std.specs.Prelude.{ℕ, ◌+◌, ◌*◌, ◌%◌, ◌≡◌, fold}
+use mathlib.Core.List.{List, [], ◌∷◌, flat_map}
+use Rattle.streams.specs.declared.Entry.{Entry}
+use Rattle.streams.specs.declared.Entry.TheVariants.{ByteRead, ByteWritten, ReadReturned, EndOfInput, ReadFailed, WriteFailed}
 
 -- what an entry adds to the bytes that were read, to those that were handed to writes, and to the failures
 abbrev pub adds : Entry → List ℕ × List ℕ × List Entry
-adds (byte_read b) = (b ∷ [], [], [])
-adds (byte_written b) = ([], b ∷ [], [])
-adds read_returned = ([], [], [])
-adds end_of_input = ([], [], [])
-adds read_failed = ([], [], read_failed ∷ [])
-adds write_failed = ([], [], write_failed ∷ [])
+adds (ByteRead b) = (b ∷ [], [], [])
+adds (ByteWritten b) = ([], b ∷ [], [])
+adds ReadReturned = ([], [], [])
+adds EndOfInput = ([], [], [])
+adds ReadFailed = ([], [], ReadFailed ∷ [])
+adds WriteFailed = ([], [], WriteFailed ∷ [])
 
 -- of a log: the bytes that were read, the bytes that were handed to writes, the failures
 abbrev pub read_in : List Entry → List ℕ
@@ -32,12 +26,12 @@ failures_in log = flat_map (λ e. (adds e).2) log
 
 -- a number for each entry: while bytes are below 256, no two entries have the same
 abbrev pub entry_number : Entry → ℕ
-entry_number (byte_read b) = 0 + b
-entry_number (byte_written b) = 256 + b
-entry_number read_returned = 512
-entry_number end_of_input = 513
-entry_number read_failed = 514
-entry_number write_failed = 515
+entry_number (ByteRead b) = b
+entry_number (ByteWritten b) = 256 + b
+entry_number ReadReturned = 512
+entry_number EndOfInput = 513
+entry_number ReadFailed = 514
+entry_number WriteFailed = 515
 
 -- the digest, a checksum of 32 bits, with one entry more, by its number
 abbrev pub with_number : (digest number : ℕ) → ℕ
@@ -48,7 +42,7 @@ with_entry digest e = with_number digest (entry_number e)
 
 -- the digest with more entries
 unfoldable pub digest_after : (digest : ℕ) → List Entry → ℕ
-digest_after digest es = foldl with_entry digest es
+digest_after digest es = fold with_entry digest es
 
 -- `after` is the digest `before` with these entries. Other logs have the same digest, so this alone does not say that these are the entries: a
 -- proof that uses of digests only that no entries leave them as they are (`logged_none`) and that entries follow one another (`logged_both`), and

@@ -6,146 +6,135 @@
 // failure; and that what is said goes to standard error. And of a program: that it keeps one log, and changes it only by lending it to these two.
 #![tactic(auto)]
 
-ghost use Rattle.std.specs.Prelude.{◌≡◌, map, ℕ, ◌+◌, ◌<◌, ◌≤◌, length};
-ghost use Rattle.streams.specs.Log.{Entry, entry_number, with_number, digest_after};
+ghost use Rattle.std.specs.Prelude.{◌≡◌, ◌<◌, ℕ, length, map};
+ghost use Rattle.streams.specs.declared.Entry.{Entry};
+ghost use Rattle.streams.specs.Log.{entry_number, with_entry, digest_after};
 ghost use Rattle.streams.specs.Parts.{Took, Wrote};
 
-use std::io;
+use std::fmt::Display;
 use std::io::{Read, Stderr, Stdin, Stdout, Write};
 use std::str::from_utf8;
+use std::{fmt, io};
 
-// What a read gives: so many bytes at the front of the part, the end of the input, or nothing, since it failed.
-#[derive(Clone, Copy)]
-pub enum Got {
-    Bytes(usize),
-    End,
-    Failed,
-}
-
-// The standard streams of the process, and why the last read or write that failed did so.
+// The standard streams of the process.
 #[derive(Drop)]
 pub struct Stdio {
     input: Stdin,
     output: Stdout,
     errors: Stderr,
-    reason: Option<io::Error>,
 }
 
 impl Stdio {
-    // Nothing has failed.
     pub fn new(rt: HostRuntime) -> Stdio {
         Stdio {
             input: rt.stdin(),
             output: rt.stdout(),
             errors: rt.stderr(),
-            reason: None,
         }
     }
 }
 
-// The numbers of the log's entries (`entry_number`): of bytes the first of 256.
-const BYTE_READ: u16 = 0;
-
-const BYTE_WRITTEN: u16 = 256;
-
-const READ_RETURNED: u16 = 512;
-
-const END_OF_INPUT: u16 = 513;
-
-const READ_FAILED: u16 = 514;
-
-const WRITE_FAILED: u16 = 515;
-
-// The digest with one entry more, by its number.
-fn with_number(digest: u64, number: u16) -> u64
-    ensures { result ≡ with_number digest number }
-{
-    (digest % 4294967296 * 16777619 + number as u64 + 1) % 4294967296
+// An entry of the log.
+#[derive(Clone, Copy)]
+pub enum Entry {
+    // a byte was read; a byte was handed to a write
+    ByteRead(u8),
+    ByteWritten(u8),
+    // a read returned, with the bytes before this; one gave no bytes, which is the end of the input; one failed
+    ReadReturned,
+    EndOfInput,
+    ReadFailed,
+    // the last write failed: the bytes that were handed to it are the last before this, and any number of them may have been taken
+    WriteFailed,
 }
 
-// The digest with an entry more for each byte, numbered from the first number on.
-fn with_bytes(digest: u64, first: u16, bytes: &[u8]) -> u64
-    requires { first ≤ 256 }
-    ensures { (entry : ℕ → Entry) → ((b : ℕ) → entry_number (entry b) ≡ first + b)
-        → result ≡ digest_after digest (map entry bytes.now) }
+// The number of an entry: no two have the same.
+fn entry_number(entry: Entry) -> u64
+    ensures { result ≡ entry_number entry }
+{
+    match entry {
+        Entry::ByteRead(b) => u64::from(b),
+        Entry::ByteWritten(b) => 256 + u64::from(b),
+        Entry::ReadReturned => 512,
+        Entry::EndOfInput => 513,
+        Entry::ReadFailed => 514,
+        Entry::WriteFailed => 515,
+    }
+}
+
+// The digest with one entry more, by its number.
+fn with_entry(digest: u64, entry: Entry) -> u64
+    ensures { result ≡ with_entry digest entry }
+{
+    (digest % 4294967296 * 16777619 + entry_number(entry) + 1) % 4294967296
+}
+
+// The digest with an entry more for each byte.
+fn with_bytes<F: Fn(u8) -> Entry + Drop>(digest: u64, bytes: &[u8], entry: F) -> u64
+    requires { F.IsAlwaysCallable entry }
+    ensures { (e : ℕ → Entry) → ((b : ℕ) (r : Entry) → F.post entry b r → r ≡ e b)
+        → result ≡ digest_after digest (map e bytes.now) }
 {
     let mut d = digest;
     for b in bytes {
-        d = with_number(d, first + *b as u16);
+        d = with_entry(d, entry(*b));
     }
     d
 }
 
-// One read of standard input, into the part.
-pub fn read_part(stdio: &mut Stdio, log: &mut u64, part: &mut [u8]) -> Got
+// One read of standard input, into the part: how many bytes then stand at its front, or nothing where the input has ended.
+pub fn read_part(stdio: &mut Stdio, log: &mut u64, part: &mut [u8]) -> io::Result<Option<usize>>
     requires { 0 < length part.old }
     ensures { Took log.old log.new part.new result }
 {
-    let got = stdio.input.read(&mut *part);
-    let before = *log;
-    match got {
-        Ok(n) if n > 0 => {
-            *log = with_number(with_bytes(before, BYTE_READ, &part[..n]), READ_RETURNED);
-            Got::Bytes(n)
+    match stdio.input.read(part) {
+        Ok(0) => {
+            *log = with_entry(*log, Entry::EndOfInput);
+            Ok(None)
         }
-        Ok(_) => {
-            *log = with_number(before, END_OF_INPUT);
-            Got::End
+        Ok(n) => {
+            let read = with_bytes(*log, &part[..n], Entry::ByteRead);
+            *log = with_entry(read, Entry::ReadReturned);
+            Ok(Some(n))
         }
         Err(reason) => {
-            stdio.reason = Some(reason);
-            *log = with_number(before, READ_FAILED);
-            Got::Failed
+            *log = with_entry(*log, Entry::ReadFailed);
+            Err(reason)
         }
     }
 }
 
-// Writes the part to standard output, and answers whether all of it was taken.
-pub fn write_part(stdio: &mut Stdio, log: &mut u64, part: &[u8]) -> bool
+// Writes the part to standard output, all of it.
+pub fn write_part(stdio: &mut Stdio, log: &mut u64, part: &[u8]) -> io::Result<()>
     ensures { Wrote log.old log.new part.now result }
 {
-    let before = *log;
-    let handed = with_bytes(before, BYTE_WRITTEN, part);
+    *log = with_bytes(*log, part, Entry::ByteWritten);
     match stdio.output.write_all(part) {
-        Ok(()) => {
-            *log = handed;
-            true
-        }
+        Ok(()) => Ok(()),
         Err(reason) => {
-            stdio.reason = Some(reason);
-            *log = with_number(handed, WRITE_FAILED);
-            false
+            *log = with_entry(*log, Entry::WriteFailed);
+            Err(reason)
         }
     }
 }
 
-// Says on standard error what failed and, by the system's text, why.
-pub fn say_failed(stdio: &Stdio, what: &[u8]) {
-    say(stdio, what);
-    if let Some(reason) = &stdio.reason {
-        say(stdio, b": ");
-        say_reason(stdio, reason);
-    }
-    say(stdio, b"\n");
-}
+// Why a read or a write failed: the library's text, without the system's number for the error, which it adds in brackets.
+#[derive(Clone, Copy)]
+pub struct Reason(pub io::Error);
 
-// The library's text, without the system's number for the error, which it adds in brackets.
-fn say_reason(stdio: &Stdio, reason: &io::Error) {
-    let mut text = [0u8; 256];
-    let mut room = &mut text[..];
-    let _ = write!(room, "{reason}");
-    let n = 256usize.saturating_sub(room.len());
-    if let Ok(words) = from_utf8(&text[..n]) {
-        let words = match words.rsplit_once(" (os error ") {
-            Some((before, _)) => before,
-            None => words,
-        };
-        say(stdio, words.as_bytes());
+impl Display for Reason {
+    fn fmt<W: fmt::Write>(&self, f: &mut fmt::Formatter<W>) -> fmt::Result {
+        let mut text = [0u8; 256];
+        let mut room = &mut text[..];
+        let _ = write!(room, "{}", self.0);
+        let n = 256usize.saturating_sub(room.len());
+        let words = from_utf8(&text[..n]).unwrap_or("");
+        f.write_str(words.rsplit_once(" (os error ").map_or(words, |(before, _)| before))
     }
 }
 
-// Says the bytes on standard error.
-pub fn say(stdio: &Stdio, line: &[u8]) {
+// Says a line on standard error.
+pub fn say(stdio: &Stdio, line: impl Display + Drop) {
     let mut errors = stdio.errors;
-    let _ = errors.write_all(line);
+    let _ = writeln!(errors, "{line}");
 }

@@ -6,11 +6,10 @@ use mathlib.Core.List.{List, map}
 use native.Mathlib.Omega.{arith}
 use lib.ListN.{length}
 use borrow.Author.Tests.{lt-ltb, le-ltb}
-use Rattle.model.specs.declared.Kind.{Kind}
 use Rattle.model.specs.declared.Refusal.{Refusal}
-use Rattle.std.specs.Prelude.{Result}
-use Rattle.std.specs.Prelude.{Err}
-use Rattle.model.specs.Answers.{result, refused, kind_number, refused_by, outcome}
+use Rattle.std.specs.Prelude.{Option, Some, None, Result, Ok, Err}
+use Rattle.std.specs.Option.{ok_or}
+use Rattle.model.specs.Answers.{refused, kind_number, refused_by, outcome}
 use Rattle.model.specs.Table.{Row, Table, accepting_states}
 use Rattle.model.specs.Count.{sum, count, total}
 use Rattle.model.specs.Check.{state_ground, counts_outcome, count_limit}
@@ -20,24 +19,18 @@ use Rattle.model.proofs.Numbers.{kind_positive}
 use Rattle.chains.specs.First.{FirstAt}
 use Rattle.rows.specs.Words.{rows_in, held_table}
 use Rattle.rows.proofs.Words.{rows_long}
-use Rattle.counts.specs.declared.Kept.{Kept}
 use Rattle.counts.specs.Kept.{Is}
 use Rattle.counts.specs.Chain.{Chainable, ChainedRows}
 use Rattle.counts.specs.States.{held, ArgsPlaced, CountReady, CountedStates}
 use Rattle.counts.proofs.KeptCounts.{kept_within, kept_beyond}
-use Rattle.used.specs.declared.StateFault.{StateFault}
-use Rattle.used.specs.declared.StateFault.TheVariants.{At, Nothing}
 use Rattle.used.specs.Settled.{SettleReady, Settled}
 use Rattle.table.specs.Checked.{total_or11, StatesReady, StatesAnswer}
 
 -- ---- the total
 
-module _ {k : Kept} {n : ℕ} (is : Is k n) where
-  pub total_over : (k.over ≡ 0 → ⊥) → refused 11 0 ≡ total_or11 n
-  total_over h = let l = kept_beyond is h in rw (lt-ltb count_limit n (omega arith))
-
-  pub total_within : k.over ≡ 0 → result k.count ≡ total_or11 n
-  total_within z = let e = kept_within is z in rw (e, le-ltb count_limit n (omega (arith, is.small)))
+pub total_told : (k : Option ℕ) (n : ℕ) (r : Refusal) → Is k n → refused_by r ≡ refused 11 0 → outcome (ok_or k r) ≡ total_or11 n
+total_told (Some x) n r i e = rw (kept_within i, le-ltb count_limit n (omega (arith, i)))
+total_told None n r i e = let l = kept_beyond i in rw (e, lt-ltb count_limit n (omega (arith, l)))
 
 -- ---- the rows chained, the states counted and held to the limits, the total
 
@@ -92,21 +85,20 @@ module _ {states : ℕ} {pool words accepting first counts marks used sums : Lis
         kept = y.known;
       }
 
-      module _ {prepare : Bool} {counts'' sums'' : List ℕ} {f : StateFault} (z : Settled prepare states pool accepting words' counts' counts'' sums' sums'' f) where
+      module _ {prepare : Bool} {counts'' sums'' : List ℕ} {f : Result (Unit {0}) Refusal} (z : Settled prepare states pool accepting words' counts' counts'' sums' sums'' f) where
         -- a faulty state: 9 or 10
-        pub states_fault : (q : ℕ) (k : Kind) (r : Refusal) → refused_by r ≡ refused (kind_number k) q → f ≡ At q k
-            → StatesAnswer prepare states pool words accepting words' first' counts'' sums'' (Err r)
-        states_fault q k r e h = record {
-          answer = e ∙ fault_refused states q (kind_number k) (state_ground count_limit T) _ at.inside at.before at.here (kind_positive k) ∙ same_table;
+        pub states_fault : (r : Refusal) → f ≡ Err r → StatesAnswer prepare states pool words accepting words' first' counts'' sums'' (Err r)
+        states_fault r h = record {
+          answer = fault_refused states r.place (kind_number r.kind) (state_ground count_limit T) _ at.inside at.before at.here (kind_positive r.kind) ∙ same_table;
           same = x.same;
           links = x.links;
           counted = λ t i. let w : ◌≡◌ {A = ℕ} 0 1 = cc in absurd (omega arith);
         }
           where
-            at : FirstAt states (state_ground count_limit T) q (kind_number k)
-            at = z.fault q k h
+            at : FirstAt states (state_ground count_limit T) r.place (kind_number r.kind)
+            at = z.fault r h
 
-        module _ (none : f ≡ Nothing) where
+        module _ (none : f ≡ Ok tt) where
           -- the accepting states have counts
           pub entries_placed : ArgsPlaced counts'' accepting
           entries_placed = record { placed = λ k l. omega (arith, s.listed k l, s.room.cs_room, y.cs_long, z.cs_long) }

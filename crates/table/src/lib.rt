@@ -10,7 +10,6 @@ ghost use Rattle.table.specs.Checked.{Empty, CrowdReady, RowsReady, RowsChecked,
 
 use index::{TakeError, two};
 use model::{Answer, Kind, Refusal, refuse};
-use used::StateFault;
 
 // How many rows there are, and the multiplier of their index.
 #[derive(Clone, Copy)]
@@ -113,15 +112,12 @@ fn faulty_entry(states: u64, accepting: &[u16]) -> Option<usize>
 }
 
 // The total; or 11 where it is above the largest number of 64 bits.
+#[tactic(auto, using(crate::proofs::Counting::total_told))]
 fn total_of(accepting: &[u16], counts: &[u64]) -> Answer
     requires { ArgsPlaced counts.now accepting.now }
     ensures { outcome result ≡ total_or11 (sum (map (held counts.now) accepting.now)) }
 {
-    let total = counts::sum_of(accepting, counts);
-    if total.over != 0 {
-        return Err(refuse(Kind::TotalAboveLimit, 0));
-    }
-    Ok(total.count)
+    counts::sum_of(accepting, counts).ok_or(refuse(Kind::TotalAboveLimit, 0))
 }
 
 // The rest of the check, from the states on, where the rows and the accepting list are without fault. Unless it is to prepare for numbering, used
@@ -143,13 +139,11 @@ fn check_states(
         first.new counts.new sums.new result }
 {
     counts::chain_rows(pool, words, first);
-    counts::count_states(states, pool, &*words, &*first, counts, marks, sums);
-    match used::settle(
-        prepare, states, pool, accepting, &*words, &*first, counts, &*marks, used, sums,
-    ) {
-        StateFault::At(q, kind) => Err(refuse(kind, q as u64)),
-        StateFault::Nothing => total_of(accepting, &*counts),
-    }
+    counts::count_states(states, pool, words, first, counts, marks, sums);
+    used::settle(
+        prepare, states, pool, accepting, words, first, counts, marks, used, sums,
+    )?;
+    total_of(accepting, counts)
 }
 
 // The check of a table, which leaves in the lent arrays what writing needs of one that passes, and what numbering needs if it is to prepare for that.

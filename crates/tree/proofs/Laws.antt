@@ -1,7 +1,8 @@
 -- The entries read so far, and what the entry at hand does. Assumes nothing.
-use Rattle.std.specs.Prelude.{if◌then◌else◌}
+use Rattle.std.specs.Prelude.{Result, Ok, Err, if◌then◌else◌}
 use Prim.Native.Nat.{ℕ, suc, ◌+◌, ◌-◌, ◌<◌, ◌≤◌}
 use mathlib.Core.Path.{◌≡◌, refl, sym, ap, ◌∙◌}
+use mathlib.Core.Logic.{◌⊎◌, inl, inr}
 use mathlib.Core.Bool.{Bool, true, false, ◌&&◌, ◌||◌}
 use mathlib.Core.List.{List, [], ◌∷◌}
 use native.Mathlib.Omega.{arith}
@@ -18,9 +19,8 @@ use Rattle.model.proofs.Entries.{open_append, tree_then_back}
 use Rattle.model.specs.declared.Refusal.{Refusal}
 use Rattle.tree.specs.Reading.{fresh, not_a_tree, step_of, end_of, form_check_then, Decides}
 use Rattle.tree.specs.declared.Reading.{Reading}
-use Rattle.tree.specs.declared.Step.TheVariants.{Opens, Closes, Refuses}
-use Rattle.tree.specs.declared.Form.{Form}
-use Rattle.tree.specs.declared.Form.TheVariants.{Tree, Refuses as RefusesList}
+use Rattle.tree.specs.declared.Step.{Step}
+use Rattle.tree.specs.declared.Step.TheVariants.{Opens, Closes}
 
 -- the state after i entries, none of which was refused
 pub record Read (tree : List ℕ) (s : Reading) (i : ℕ) : Type 0 where
@@ -35,32 +35,21 @@ pub record Read (tree : List ℕ) (s : Reading) (i : ℕ) : Type 0 where
 abbrev pub refusing : Reading → ℕ → Bool
 refusing s e = ltb 255 e || (eqb e 0 && eqb s.depth 0) || (ltb 0 s.place && eqb s.depth 0)
 
--- what a step is, by its tests
-pub step_is : (s : Reading) (e : ℕ) (h z y b : Bool) → ltb 255 e ≡ h → eqb e 0 ≡ z → eqb s.depth 0 ≡ y → ltb 0 s.place ≡ b
-    → step_of s e ≡ (if h || (z && y) || (b && y) then Refuses (not_a_tree s.place) else if z then Closes (record { depth = s.depth - 1; place = s.place + 1 }) else Opens (record { depth = s.depth + 1; place = s.place + 1 }))
-unfolding step_of
-step_is s e h z y b p q r t = rw (p, q, r, t)
-
--- what the end is, by its tests
-pub end_is : (s : Reading) (z d : Bool) → eqb s.place 0 ≡ z → ltb 0 s.depth ≡ d → end_of s ≡ (if z || d then RefusesList (not_a_tree s.place) else Tree)
-unfolding end_of
-end_is s z d p q = rw (p, q)
-
 -- how a step comes about
-pub opens_by : (t z : Bool) (f : Refusal) (x y n : Reading) → (if t then Refuses f else if z then Closes x else Opens y) ≡ Opens n → (t ≡ false) × (z ≡ false) × (n ≡ y)
-opens_by true z f x y n e = let w : ◌≡◌ {A = ℕ} 0 1 = cc in absurd (omega arith)
-opens_by false true f x y n e = let w : ◌≡◌ {A = ℕ} 0 1 = cc in absurd (omega arith)
+pub opens_by : (t z : Bool) (f : Refusal) (x y n : Reading) → (if t then Err f else if z then Ok (Closes x) else Ok (Opens y)) ≡ Ok (Opens n) → (t ≡ false) × (z ≡ false) × (n ≡ y)
+opens_by true z f x y n e = cc
+opens_by false true f x y n e = cc
 opens_by false false f x y n e = (refl, refl, cc)
 
-pub closes_by : (t z : Bool) (f : Refusal) (x y n : Reading) → (if t then Refuses f else if z then Closes x else Opens y) ≡ Closes n → (t ≡ false) × (z ≡ true) × (n ≡ x)
-closes_by true z f x y n e = let w : ◌≡◌ {A = ℕ} 0 1 = cc in absurd (omega arith)
+pub closes_by : (t z : Bool) (f : Refusal) (x y n : Reading) → (if t then Err f else if z then Ok (Closes x) else Ok (Opens y)) ≡ Ok (Closes n) → (t ≡ false) × (z ≡ true) × (n ≡ x)
+closes_by true z f x y n e = cc
 closes_by false true f x y n e = (refl, refl, cc)
-closes_by false false f x y n e = let w : ◌≡◌ {A = ℕ} 0 1 = cc in absurd (omega arith)
+closes_by false false f x y n e = cc
 
-refuses_by : (t z : Bool) (f : Refusal) (x y : Reading) (g : Refusal) → (if t then Refuses f else if z then Closes x else Opens y) ≡ Refuses g → (t ≡ true) × (g ≡ f)
+refuses_by : (t z : Bool) (f : Refusal) (x y : Reading) (g : Refusal) → (if t then Err f else if z then Ok (Closes x) else Ok (Opens y)) ≡ Err g → (t ≡ true) × (g ≡ f)
 refuses_by true z f x y g e = (refl, cc)
-refuses_by false true f x y g e = let w : ◌≡◌ {A = ℕ} 0 1 = cc in absurd (omega arith)
-refuses_by false false f x y g e = let w : ◌≡◌ {A = ℕ} 0 1 = cc in absurd (omega arith)
+refuses_by false true f x y g e = cc
+refuses_by false false f x y g e = cc
 
 -- nodes open after one entry more
 open_next : (tree : List ℕ) (i : ℕ) → i < length tree → open_at tree (i + 1) ≡ (if eqb (get_or tree i 0) 0 then open_at tree i - 1 else suc (open_at tree i))
@@ -96,20 +85,25 @@ module _ {tree : List ℕ} {s : Reading} {i : ℕ} (r : Read tree s i) (l : i < 
       low true = omega (arith, r.shallow)
       low false = omega (arith, r.shallow)
 
-  pub opened : (n : Reading) → step_of s (get_or tree i 0) ≡ Opens n → Read tree n (i + 1)
+  pub opened : (n : Reading) → step_of s (get_or tree i 0) ≡ Ok (Opens n) → Read tree n (i + 1)
   unfolding step_of
   opened n e =
       let t = opens_by (refusing s (get_or tree i 0)) (eqb (get_or tree i 0) 0) _ _ _ n e in
       went n false t.0 t.1 (ap (λ (x : Reading). x.depth) t.2) (ap (λ (x : Reading). x.place) t.2)
 
-  pub shut : (n : Reading) → step_of s (get_or tree i 0) ≡ Closes n → Read tree n (i + 1)
+  pub shut : (n : Reading) → step_of s (get_or tree i 0) ≡ Ok (Closes n) → Read tree n (i + 1)
   unfolding step_of
   shut n e =
       let t = closes_by (refusing s (get_or tree i 0)) (eqb (get_or tree i 0) 0) _ _ _ n e in
       went n true t.0 t.1 (ap (λ (x : Reading). x.depth) t.2) (ap (λ (x : Reading). x.place) t.2)
 
+  -- the entry opens a node or closes one
+  pub either : (n : Reading) (x : Step) → step_of s (get_or tree i 0) ≡ Ok x → (x ≡ Opens n) ⊎ (x ≡ Closes n) → Read tree n (i + 1)
+  either n x e (inl o) = opened n (e ∙ ap Ok o)
+  either n x e (inr c) = shut n (e ∙ ap Ok c)
+
   -- the entry is refused: it is the place of 13
-  pub refused_here : (f : Refusal) → step_of s (get_or tree i 0) ≡ Refuses f → (o : Outcome) → refused_by f ≡ tree_then tree o
+  pub refused_here : (f : Refusal) → step_of s (get_or tree i 0) ≡ Err f → (o : Outcome) → refused_by f ≡ tree_then tree o
   unfolding step_of tree_then form_then
   refused_here f e o =
       let t = refuses_by (refusing s (get_or tree i 0)) (eqb (get_or tree i 0) 0) _ _ _ f e in
@@ -141,13 +135,13 @@ module _ {tree : List ℕ} {s : Reading} {i : ℕ} (r : Read tree s i) (ge : len
   place_end = r.place_is ∙ full
 
   -- so the answer after the last entry decides 12 and 13
-  pub ended : (f : Form) → f ≡ end_of s → Decides tree f
+  pub ended : (f : Result (Unit {0}) Refusal) → f ≡ end_of s → Decides tree f
   unfolding end_of ends_too_soon
   ended f e = record {
-    decided = λ o. ap (λ (g : Form). form_check_then g o) e ∙ told (eqb s.place 0 || ltb 0 s.depth) o ∙ rw (place_end, depth_end) (sym (after o));
+    decided = λ o. ap (λ (g : Result (Unit {0}) Refusal). form_check_then g o) e ∙ told (eqb s.place 0 || ltb 0 s.depth) o ∙ rw (place_end, depth_end) (sym (after o));
   }
     where
-      told : (b : Bool) (o : Outcome) → form_check_then (if b then RefusesList (not_a_tree s.place) else Tree) o ≡ (if b then refused 13 s.place else o)
+      told : (b : Bool) (o : Outcome) → form_check_then (if b then Err (not_a_tree s.place) else Ok tt) o ≡ (if b then refused 13 s.place else o)
       told true o = refl
       told false o = refl
 
@@ -157,12 +151,12 @@ unfolding tree_then
 too_long tree l o = rw (lt-ltb 4096 (length tree) l)
 
 -- what the answer says: 12 or 13, or a tree of at most 4,096 entries
-module _ {tree : List ℕ} {f : Form} (d : Decides tree f) where
-  pub list_refused : (r : Refusal) → f ≡ RefusesList r → (o : Outcome) → refused_by r ≡ tree_then tree o
+module _ {tree : List ℕ} {f : Result (Unit {0}) Refusal} (d : Decides tree f) where
+  pub list_refused : (r : Refusal) → f ≡ Err r → (o : Outcome) → refused_by r ≡ tree_then tree o
   list_refused r e o = rw e at (d.decided o)
 
-  pub list_taken : f ≡ Tree → (o : Outcome) → o ≡ tree_then tree o
+  pub list_taken : f ≡ Ok tt → (o : Outcome) → o ≡ tree_then tree o
   list_taken e o = rw e at (d.decided o)
 
-  pub list_well : f ≡ Tree → WellFormed tree × (length tree ≤ 4096)
+  pub list_well : f ≡ Ok tt → WellFormed tree × (length tree ≤ 4096)
   list_well e = let b = tree_then_back tree 0 (result 0) (sym (list_taken e (result 0))) in (b.0, b.1)

@@ -1,14 +1,12 @@
 -- Reading a tree entry by entry, as the code does. Assumes nothing: these are definitions.
-use Rattle.std.specs.Prelude.{ℕ, ◌+◌, ◌-◌, ◌≡◌, ◌&&◌, ◌||◌, List, eqb, ltb, if◌then◌else◌}
+use Rattle.std.specs.Prelude.{ℕ, ◌+◌, ◌-◌, ◌≡◌, ◌&&◌, ◌||◌, List, Result, Ok, Err, eqb, ltb, if◌then◌else◌}
 use Rattle.model.specs.Answers.{Outcome, refused_by}
 use Rattle.model.specs.Entries.{tree_then}
 use Rattle.model.specs.declared.Kind.TheVariants.{NotATree}
 use Rattle.model.specs.declared.Refusal.{Refusal}
 use Rattle.tree.specs.declared.Reading.{Reading}
 use Rattle.tree.specs.declared.Step.{Step}
-use Rattle.tree.specs.declared.Step.TheVariants.{Opens, Closes, Refuses}
-use Rattle.tree.specs.declared.Form.{Form}
-use Rattle.tree.specs.declared.Form.TheVariants.{Tree, Refuses as RefusesList}
+use Rattle.tree.specs.declared.Step.TheVariants.{Opens, Closes}
 
 abbrev pub fresh : Reading
 fresh = record { depth = 0; place = 0 }
@@ -19,21 +17,21 @@ not_a_tree place = record { place = place; kind = NotATree }
 
 -- "each entry read opens a node, closes one, or is refused": it is refused if it "is above 255, is a bar with no node open, or follows the
 -- root's bar"
-unfoldable pub step_of : Reading → ℕ → Step
+unfoldable pub step_of : Reading → ℕ → Result Step Refusal
 step_of r e =
-    if ltb 255 e || (eqb e 0 && eqb r.depth 0) || (ltb 0 r.place && eqb r.depth 0) then Refuses (not_a_tree r.place) else
-    if eqb e 0 then Closes (record { depth = r.depth - 1; place = r.place + 1 }) else
-    Opens (record { depth = r.depth + 1; place = r.place + 1 })
+    if ltb 255 e || (eqb e 0 && eqb r.depth 0) || (ltb 0 r.place && eqb r.depth 0) then Err (not_a_tree r.place) else
+    if eqb e 0 then Ok (Closes (record { depth = r.depth - 1; place = r.place + 1 })) else
+    Ok (Opens (record { depth = r.depth + 1; place = r.place + 1 }))
 
 -- "for a list that ends too soon (an empty one too) the place is its length"
-unfoldable pub end_of : Reading → Form
-end_of r = if eqb r.place 0 || ltb 0 r.depth then RefusesList (not_a_tree r.place) else Tree
+unfoldable pub end_of : Reading → Result (Unit {0}) Refusal
+end_of r = if eqb r.place 0 || ltb 0 r.depth then Err (not_a_tree r.place) else Ok tt
 
 -- the refusal, or where the list is a tree what follows
-abbrev pub form_check_then : Form → Outcome → Outcome
-form_check_then Tree otherwise = otherwise
-form_check_then (RefusesList r) otherwise = refused_by r
+abbrev pub form_check_then : Result (Unit {0}) Refusal → Outcome → Outcome
+form_check_then (Ok _) otherwise = otherwise
+form_check_then (Err r) otherwise = refused_by r
 
 -- the answer decides 12 and 13
-pub record Decides (entries : List ℕ) (f : Form) : Type 0 where
+pub record Decides (entries : List ℕ) (f : Result (Unit {0}) Refusal) : Type 0 where
   pub decided : (o : Outcome) → form_check_then f o ≡ tree_then entries o

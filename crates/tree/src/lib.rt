@@ -7,25 +7,17 @@ ghost use Rattle.tree.specs.Reading.{fresh, not_a_tree, step_of, end_of, Decides
 use model::{Kind, Refusal, refuse};
 
 // How many nodes are open, and how many entries were read: the place of the next one.
-#[derive(Clone, Copy)]
+#[derive(Clone, Copy, PartialEq, Eq, Debug)]
 pub struct Reading {
     pub depth: usize,
     pub place: usize,
 }
 
-// The entry opens a node, closes one, or is refused.
-#[derive(Clone, Copy)]
+// The entry opens a node or closes one.
+#[derive(Clone, Copy, PartialEq, Eq, Debug)]
 pub enum Step {
     Opens(Reading),
     Closes(Reading),
-    Refuses(Refusal),
-}
-
-// The list is a tree, or is refused by 12 or 13.
-#[derive(Clone, Copy)]
-pub enum Form {
-    Tree,
-    Refuses(Refusal),
 }
 
 // Refusal 13 at a place.
@@ -45,77 +37,54 @@ impl Reading {
         Reading { depth: 0, place: 0 }
     }
 
-    // Reads one entry.
-    pub fn entry(self, e: u16) -> Step
+    // Reads one entry, or refuses it.
+    #[tactic(auto, unfolding(crate::specs::Reading::step_of))]
+    pub fn entry(self, e: u16) -> Result<Step, Refusal>
         requires { (self.depth ≤ self.place) × (self.place < 4096) }
         ensures { result ≡ step_of self e }
     {
-        let depth = self.depth;
-        let place = self.place;
-        if 255 < e {
-            return Step::Refuses(not_a_tree(place));
+        let Reading { depth, place } = self;
+        // with no node open, nothing was read or the root's bar was
+        if 255 < e || depth == 0 && (0 < place || e == 0) {
+            return Err(not_a_tree(place));
         }
-        if depth == 0 {
-            // the root's bar was read
-            if 0 < place {
-                return Step::Refuses(not_a_tree(place));
-            }
-            if e == 0 {
-                return Step::Refuses(not_a_tree(place));
-            }
-            return Step::Opens(Reading { depth: 1, place: 1 });
-        }
+        let place = place + 1;
         if e == 0 {
-            return Step::Closes(Reading {
+            return Ok(Step::Closes(Reading {
                 depth: depth - 1,
-                place: place + 1,
-            });
+                place,
+            }));
         }
-        Step::Opens(Reading {
+        Ok(Step::Opens(Reading {
             depth: depth + 1,
-            place: place + 1,
-        })
+            place,
+        }))
     }
 
     // After the last entry: the list is a tree, or ends too soon.
-    pub fn end(self) -> Form
+    #[tactic(auto, unfolding(crate::specs::Reading::end_of))]
+    pub fn end(self) -> Result<(), Refusal>
         ensures { result ≡ end_of self }
     {
-        let depth = self.depth;
-        let place = self.place;
-        if place == 0 {
-            return Form::Refuses(not_a_tree(place));
+        let Reading { depth, place } = self;
+        if place == 0 || 0 < depth {
+            return Err(not_a_tree(place));
         }
-        if 0 < depth {
-            return Form::Refuses(not_a_tree(place));
-        }
-        Form::Tree
+        Ok(())
     }
 }
 
-// Whether the list is a tree of at most 4,096 entries.
-pub fn check_tree(tree: &[u16]) -> Form
+// Whether the list is a tree of at most 4,096 entries, or refused by 12 or 13.
+pub fn check_tree(tree: &[u16]) -> Result<(), Refusal>
     ensures { Decides tree.now result }
 {
     if 4096 < tree.len() {
-        return Form::Refuses(refuse(Kind::TreeTooLong, 0));
+        return Err(refuse(Kind::TreeTooLong, 0));
     }
     let mut s = Reading::new();
-    let mut i: usize = 0;
-    while i < tree.len() {
-        match s.entry(tree[i]) {
-            Step::Opens(n) => {
-                s = n;
-                i += 1;
-            }
-            Step::Closes(n) => {
-                s = n;
-                i += 1;
-            }
-            Step::Refuses(r) => {
-                return Form::Refuses(r);
-            }
-        }
+    for e in tree {
+        let (Step::Opens(t) | Step::Closes(t)) = s.entry(*e)?;
+        s = t;
     }
     s.end()
 }

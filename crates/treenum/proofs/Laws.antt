@@ -1,7 +1,6 @@
 -- What a run has read and written. Assumes nothing.
 use Prim.Native.Nat.{ℕ, ◌+◌, ◌-◌, ◌<◌, ◌≤◌}
 use mathlib.Core.Path.{◌≡◌, refl, sym, ap, ◌∙◌}
-use mathlib.Core.Bool.{Bool, true, false}
 use mathlib.Core.List.{List, [], ◌∷◌, ◌++◌, flatten, map-append, append-nil, append_assoc}
 use native.Mathlib.Omega.{arith}
 use lib.ListN.{length, take, drop, length-append, take-append-drop}
@@ -10,19 +9,17 @@ use Rattle.model.specs.Paper.{paper_states, paper_rows, paper_accepting, paper_n
 use Rattle.line.specs.Held.{Holds, Holding, Begins, part, held_after, put_for}
 use Rattle.line.specs.declared.Line.{Line}
 use Rattle.line.proofs.Output.{held_more, put_more}
-use Rattle.streams.specs.Log.{Entry, byte_written, end_of_input, read_failed, write_failed, Logged}
+use Rattle.std.specs.Prelude.{Option, Some, None, Result, Ok, Err, IsErr, IsErrAnd, MatchResult}
+use Rattle.std.specs.declared.io.Error.{Error}
+use Rattle.streams.specs.declared.Entry.{Entry}
+use Rattle.streams.specs.declared.Entry.TheVariants.{ByteWritten, EndOfInput, ReadFailed, WriteFailed}
+use Rattle.streams.specs.Log.{Logged}
 use Rattle.streams.specs.Parts.{OfBytes, one_read, writes, Took, Wrote}
-use Rattle.streams.specs.declared.Got.{Got}
-use Rattle.streams.specs.declared.Got.TheVariants.{Bytes, End, Failed}
 use Rattle.streams.proofs.Laws.{logged_none, logged_both}
 use Rattle.treenum.specs.Treenum.{printed_for, put_after, PrintsLine}
-use Rattle.treenum.specs.Run.{log_of, Parts, at_end, after_read, has_ended, Breaks, Feeds, TakesPart, Stops, Turned, Ran}
-use Rattle.treenum.specs.declared.Put.{Put}
-use Rattle.treenum.specs.declared.Put.TheVariants.{Kept, Broken}
-use Rattle.treenum.specs.declared.Turn.{Turn}
-use Rattle.treenum.specs.declared.Turn.TheVariants.{On, Stop}
-use Rattle.treenum.specs.declared.Ending.{Ending}
-use Rattle.treenum.specs.declared.Ending.TheVariants.{Done, ReadFailed, WriteFailed, TooManyReads}
+use Rattle.treenum.specs.Run.{log_of, Parts, at_end, after_read, has_ended, Feeds, TakesPart, Stops, Turned, Ran}
+use Rattle.treenum.specs.declared.Failure.{Failure}
+use Rattle.treenum.specs.declared.Failure.TheVariants.{Read, Write, TooManyReads}
 
 -- ---- the bytes of a read
 
@@ -40,7 +37,7 @@ fills_first bytes text line log = record { within = omega arith; holds = λ held
 writes_more : (held a b : List ℕ) → writes (put_after held (a ++ b)) ≡ writes (put_after held a) ++ writes (put_after (held_after held a) b)
 writes_more held a b =
     ap writes (put_more paper_states paper_rows paper_accepting paper_names held a b)
-    ∙ map-append byte_written (put_after held a) (put_after (held_after held a) b)
+    ∙ map-append ByteWritten (put_after held a) (put_after (held_after held a) b)
 
 module _ {bytes text₀ : List ℕ} {line₀ : Line} {log₀ : ℕ} {text : List ℕ} {line : Line} {log i : ℕ} (f : Fills bytes text₀ line₀ log₀ text line log i) where
   pub fills_holding : Holding line₀ text₀ → Holding line text
@@ -58,95 +55,97 @@ module _ {bytes text₀ : List ℕ} {line₀ : Line} {log₀ : ℕ} {text : List
         ∙ writes_more held (take i bytes) (part bytes i next)
         ∙ ap (λ (l : List ℕ). writes (put_after held (take i bytes)) ++ writes l) (sym (p (held_after held (take i bytes)) (f.holds held x)).puts.front)
 
-    pub fills_more : next ≤ length bytes → (r : Bool) → Wrote log log' (take n out) r → r ≡ true → Fills bytes text₀ line₀ log₀ text' line' log' next
-    fills_more l r w e =
-        let v : Wrote log log' (take n out) true = rw e at w in
-        record {
-          within = l;
-          holds = λ held x. rw (up_to, held_more held (take i bytes) (part bytes i next)) (p (held_after held (take i bytes)) (f.holds held x)).holds;
-          logged = λ held x.
-              rw (handed held x)
-              (logged_both log₀ (writes (put_after held (take i bytes))) (writes (take n out)) (f.logged held x) (rw (append-nil (writes (take n out))) at v));
-        }
+    pub fills_more : next ≤ length bytes → Wrote log log' (take n out) (Ok tt) → Fills bytes text₀ line₀ log₀ text' line' log' next
+    fills_more l w = record {
+      within = l;
+      holds = λ held x. rw (up_to, held_more held (take i bytes) (part bytes i next)) (p (held_after held (take i bytes)) (f.holds held x)).holds;
+      logged = λ held x.
+          rw (handed held x)
+          (logged_both log₀ (writes (put_after held (take i bytes))) (writes (take n out)) (f.logged held x) (rw (append-nil (writes (take n out))) at w));
+    }
 
     -- the write fails
-    pub fills_broke : (r : Bool) → Wrote log log' (take n out) r → r ≡ false → (held : List ℕ) → Holds held line₀ text₀ → Breaks held bytes log₀ log'
-    fills_broke r w e held x =
-        let v : Wrote log log' (take n out) false = rw e at w in
-        record {
-          fed = take next bytes;
-          rest = drop next bytes;
-          split = sym (take-append-drop next bytes);
-          logged =
-              rw (handed held x, append_assoc (writes (put_after held (take i bytes))) (writes (take n out)) (write_failed ∷ []))
-              (logged_both log₀ (writes (put_after held (take i bytes))) (writes (take n out) ++ write_failed ∷ []) (f.logged held x) v);
-        }
+    pub fills_broke : (reason : Error) → Wrote log log' (take n out) (Err reason) → (r : Result Line Error) → IsErr r → (held : List ℕ) → Holds held line₀ text₀ → Feeds held bytes r text' log₀ log'
+    fills_broke reason w (Ok l) h held x = cc
+    fills_broke reason w (Err e) h held x = record {
+      fed = take next bytes;
+      rest = drop next bytes;
+      split = sym (take-append-drop next bytes);
+      logged =
+          rw (handed held x, append_assoc (writes (put_after held (take i bytes))) (writes (take n out)) (WriteFailed ∷ []))
+          (logged_both log₀ (writes (put_after held (take i bytes))) (writes (take n out) ++ WriteFailed ∷ []) (f.logged held x) w);
+    }
 
   pub fills_last : length bytes ≤ i → (held : List ℕ) → Holds held line₀ text₀ → Holds (held_after held bytes) line text × Logged log₀ log (writes (put_after held bytes))
   fills_last l held x = (rw (take_all i bytes l) at (f.holds held x), rw (take_all i bytes l) at (f.logged held x))
 
 -- a list is written that begins with these bytes
-pub wrote_front : (before after : ℕ) {list bytes : List ℕ} (n : ℕ) (r : Bool) → Begins list bytes n → Wrote before after (take n list) r → Wrote before after bytes r
+pub wrote_front : (before after : ℕ) {list bytes : List ℕ} (n : ℕ) (r : Result Unit Error) → Begins list bytes n → Wrote before after (take n list) r → Wrote before after bytes r
 wrote_front before after n r b w = rw b.front at w
 
 -- ---- one read
 
-module _ (before between : ℕ) (chunk : List ℕ) (got : Got) (t : Took before between chunk got) where
-  pub took_count : (n : ℕ) → got ≡ Bytes n → n ≤ length chunk
-  took_count n e = let u : Took before between chunk (Bytes n) = rw e at t in u.1
+-- what `map_err` was given, by what it gave
+pub was_ok : {T E : Type 0} (D : Type 0) (r : Result T E) (x : T) (Q : E → Type 0) → ((e : E) → Q e → ⊥) → MatchResult r (λ y. ◌≡◌ {A = Result T D} (Ok x) (Ok y)) Q → r ≡ Ok x
+was_ok D (Ok y) x Q q h = cc
+was_ok D (Err e) x Q q h = absurd (q e h)
 
-  module _ (held text : List ℕ) (after : ℕ) (put : Put) (n : ℕ) (f : Feeds held (take n chunk) put text between after) (e : got ≡ Bytes n) where
-    pub turned_on : (line : Line) → put ≡ Kept line → TakesPart held line text before after
-    turned_on line g =
-        let u : Took before between chunk (Bytes n) = rw e at t in
-        let v : Feeds held (take n chunk) (Kept line) text between after = rw g at f in
-        record { bytes = take n chunk; of_part = (rw (length-take-le n chunk u.1) u.0, u.2); holds = v.0; logged = logged_both before (one_read (take n chunk)) (writes (put_after held (take n chunk))) u.3 v.1 }
+pub was_err : {T E D : Type 0} (r : Result T E) (d : D) (Q : E → Type 0) → MatchResult r (λ y. ◌≡◌ {A = Result T D} (Err d) (Ok y)) Q → (e : E) × (r ≡ Err e) × Q e
+was_err (Ok y) d Q h = absurd cc
+was_err (Err e) d Q h = (e, refl, h)
 
-    pub turned_broke : (reads : ℕ) → put ≡ Broken → Stops reads held WriteFailed before after
-    turned_broke reads g =
-        let u : Took before between chunk (Bytes n) = rw e at t in
-        let v : Feeds held (take n chunk) Broken text between after = rw g at f in
-        record {
-          tail = one_read (v.fed ++ v.rest) ++ (writes (put_after held v.fed) ++ write_failed ∷ []);
-          ends = after_read v.fed v.rest (rw v.split at u.2) refl;
-          logged = logged_both before (one_read (v.fed ++ v.rest)) (writes (put_after held v.fed) ++ write_failed ∷ []) (rw v.split at u.3) v.logged;
-        }
+module _ (before between : ℕ) (chunk : List ℕ) where
+  module _ (n : ℕ) (t : Took before between chunk (Ok (Some n))) (held text : List ℕ) (after : ℕ) where
+    pub turned_on : (line : Line) → Feeds held (take n chunk) (Ok line) text between after → TakesPart held line text before after
+    turned_on line f = record {
+      bytes = take n chunk;
+      of_part = (rw (length-take-le n chunk t.1) t.0, t.2);
+      holds = f.0;
+      logged = logged_both before (one_read (take n chunk)) (writes (put_after held (take n chunk))) t.3 f.1;
+    }
 
-  module _ (held : List ℕ) (after : ℕ) (reads : ℕ) (r : Bool) (w : Wrote between after (printed_for held) r) (e : got ≡ End) where
-    pub turned_done : r ≡ true → Stops reads held Done before after
-    turned_done g =
-        let u : Took before between chunk End = rw e at t in
-        let v : Wrote between after (printed_for held) true = rw g at w in
-        record {
-          tail = at_end held;
-          ends = refl;
-          logged = logged_both before (end_of_input ∷ []) (writes (printed_for held)) u (rw (append-nil (writes (printed_for held))) at v);
-        }
+    pub turned_broke : (reason : Error) → Feeds held (take n chunk) (Err reason) text between after → (reads : ℕ) → Stops reads held (Err (Write reason)) before after
+    turned_broke reason f reads = record {
+      tail = one_read (f.fed ++ f.rest) ++ (writes (put_after held f.fed) ++ WriteFailed ∷ []);
+      ends = after_read f.fed f.rest (rw f.split at t.2) refl;
+      logged = logged_both before (one_read (f.fed ++ f.rest)) (writes (put_after held f.fed) ++ WriteFailed ∷ []) (rw f.split at t.3) f.logged;
+    }
 
-    pub turned_late : r ≡ false → Stops reads held WriteFailed before after
-    turned_late g =
-        let u : Took before between chunk End = rw e at t in
-        let v : Wrote between after (printed_for held) false = rw g at w in
-        record {
-          tail = at_end held ++ write_failed ∷ [];
-          ends = has_ended refl;
-          logged = logged_both before (end_of_input ∷ []) (writes (printed_for held) ++ write_failed ∷ []) u v;
-        }
+  module _ (t : Took before between chunk (Ok None)) (held : List ℕ) (after reads : ℕ) where
+    pub turned_done : Wrote between after (printed_for held) (Ok tt) → Stops reads held (Ok tt) before after
+    turned_done w = record {
+      tail = at_end held;
+      ends = refl;
+      logged = logged_both before (EndOfInput ∷ []) (writes (printed_for held)) t (rw (append-nil (writes (printed_for held))) at w);
+    }
 
-  pub turned_unread : (reads : ℕ) (held : List ℕ) → got ≡ Failed → Stops reads held ReadFailed before between
-  turned_unread reads held e = let u : Took before between chunk Failed = rw e at t in record { tail = read_failed ∷ []; ends = refl; logged = u }
+    pub turned_late : (reason : Error) → Wrote between after (printed_for held) (Err reason) → Stops reads held (Err (Write reason)) before after
+    turned_late reason w = record {
+      tail = at_end held ++ WriteFailed ∷ [];
+      ends = has_ended refl;
+      logged = logged_both before (EndOfInput ∷ []) (writes (printed_for held) ++ WriteFailed ∷ []) t w;
+    }
+
+  pub turned_unread : (reads : ℕ) (held : List ℕ) (reason : Error) → Took before between chunk (Err reason) → Stops reads held (Err (Read reason)) before between
+  turned_unread reads held reason t = record { tail = ReadFailed ∷ []; ends = refl; logged = t }
+
+-- a failure is passed on
+pub turned_failed : (reads : ℕ) (held text : List ℕ) (before after : ℕ) (failure : Failure) → Stops reads held (Err failure) before after
+    → (r : Result (Option Line) Failure) → IsErrAnd r (λ e. e ≡ failure) → Turned reads held r text before after
+turned_failed reads held text before after failure s (Ok l) e = absurd e
+turned_failed reads held text before after failure s (Err f) e = rw e s
 
 -- ---- the run
 
 -- the input came so far in some parts, each of which is answered; the line and the text hold what is held after them
-pub record SoFar (before : ℕ) (line : Line) (text : List ℕ) (log turns : ℕ) : Type 0 where
+pub record SoFar (before : ℕ) (line : Line) (text : List ℕ) (log reads : ℕ) : Type 0 where
   pub parts : List (List ℕ)
   pub of_parts : Parts parts
   pub holds : Holds (held_after [] (flatten parts)) line text
   pub logged : Logged before log (log_of [] parts)
-  pub counted : length parts + turns ≡ 18446744073709551615
+  pub counted : length parts ≡ reads
 
-pub so_far_first : (line : Line) (text : List ℕ) (log : ℕ) → Holds [] line text → SoFar log line text log 18446744073709551615
+pub so_far_first : (line : Line) (text : List ℕ) (log : ℕ) → Holds [] line text → SoFar log line text log 0
 unfolding Parts held_after flatten log_of
 so_far_first line text log h = record { parts = []; of_parts = _; holds = h; logged = logged_none log; counted = refl }
 
@@ -170,14 +169,14 @@ log_more held (q ∷ parts) p =
     ∙ sym (append_assoc (one_read q ++ writes (put_after held q)) (log_of (held_after held q) parts) (one_read p ++ writes (put_after (held_after (held_after held q) (flatten parts)) p)))
     ∙ ap (λ (h : List ℕ). ((one_read q ++ writes (put_after held q)) ++ log_of (held_after held q) parts) ++ (one_read p ++ writes (put_after h p))) (sym (held_more held q (flatten parts)))
 
-module _ {before : ℕ} {line : Line} {text : List ℕ} {log turns : ℕ} (s : SoFar before line text log turns) where
+module _ {before : ℕ} {line : Line} {text : List ℕ} {log reads : ℕ} (s : SoFar before line text log reads) where
   pub so_far_holding : Holding line text
   so_far_holding = record { bytes = _; holds = s.holds }
 
-  module _ (text' : List ℕ) (log' : ℕ) (r : Turn) (f : (reads : ℕ) (held : List ℕ) → Holds held line text → Turned reads held r text' log log') where
-    pub so_far_more : (l : Line) → r ≡ On l → 0 < turns → SoFar before l text' log' (turns - 1)
-    so_far_more l e more =
-        let t : Turned 0 (held_after [] (flatten s.parts)) (On l) text' log log' = rw e at (f 0 (held_after [] (flatten s.parts)) s.holds) in
+  module _ (text' : List ℕ) (log' : ℕ) (r : Result (Option Line) Failure) (f : (reads : ℕ) (held : List ℕ) → Holds held line text → Turned reads held r text' log log') where
+    pub so_far_more : (l : Line) → r ≡ Ok (Some l) → SoFar before l text' log' (reads + 1)
+    so_far_more l e =
+        let t : Turned 0 (held_after [] (flatten s.parts)) (Ok (Some l)) text' log log' = rw e at (f 0 (held_after [] (flatten s.parts)) s.holds) in
         record {
           parts = s.parts ++ t.bytes ∷ [];
           of_parts = parts_more s.parts t.bytes s.of_parts t.of_part;
@@ -186,19 +185,24 @@ module _ {before : ℕ} {line : Line} {text : List ℕ} {log turns : ℕ} (s : S
           counted = let k : length (s.parts ++ t.bytes ∷ []) ≡ length s.parts + 1 = length-append s.parts (t.bytes ∷ []) in omega (arith, k, s.counted);
         }
 
-    pub so_far_stop : (ending : Ending) → r ≡ Stop ending → Ran ending before log'
-    so_far_stop ending e =
-        let t : Turned (length s.parts) (held_after [] (flatten s.parts)) (Stop ending) text' log log' = rw e at (f (length s.parts) (held_after [] (flatten s.parts)) s.holds) in
-        record {
-          log = log_of [] s.parts ++ t.tail;
-          is_run = record { parts = s.parts; of_parts = s.of_parts; tail = t.tail; whole = refl; ends = t.ends };
-          logged = logged_both before (log_of [] s.parts) t.tail s.logged t.logged;
-        }
+    stopped : (ending : Result Unit Failure) → Stops (length s.parts) (held_after [] (flatten s.parts)) ending log log' → Ran ending before log'
+    stopped ending t = record {
+      log = log_of [] s.parts ++ t.tail;
+      is_run = record { parts = s.parts; of_parts = s.of_parts; tail = t.tail; whole = refl; ends = t.ends };
+      logged = logged_both before (log_of [] s.parts) t.tail s.logged t.logged;
+    }
 
-  -- no turn is left
-  pub so_far_last : turns ≡ 0 → Ran TooManyReads before log
+    pub so_far_done : r ≡ Ok None → Ran (Ok tt) before log'
+    so_far_done e = stopped (Ok tt) (rw e at (f (length s.parts) (held_after [] (flatten s.parts)) s.holds))
+
+    pub so_far_failed : (failure : Failure) → r ≡ Err failure → (ending : Result Unit Failure) → IsErrAnd ending (λ e. e ≡ failure) → Ran ending before log'
+    so_far_failed failure e (Ok done) g = absurd g
+    so_far_failed failure e (Err other) g = rw g (stopped (Err failure) (rw e at (f (length s.parts) (held_after [] (flatten s.parts)) s.holds)))
+
+  -- there were as many reads as can be counted
+  pub so_far_last : reads ≡ 18446744073709551615 → Ran (Err TooManyReads) before log
   so_far_last e = record {
     log = log_of [] s.parts;
-    is_run = record { parts = s.parts; of_parts = s.of_parts; tail = []; whole = sym (append-nil (log_of [] s.parts)); ends = (omega (arith, s.counted, e), refl) };
+    is_run = record { parts = s.parts; of_parts = s.of_parts; tail = []; whole = sym (append-nil (log_of [] s.parts)); ends = (s.counted ∙ e, refl) };
     logged = s.logged;
   }

@@ -1,17 +1,16 @@
 -- What a run of the program reads and writes, as a log of crates/streams. Assumes nothing: these are definitions.
-use Rattle.std.specs.Prelude.{ℕ, ◌<◌, ◌≡◌, length}
+use Rattle.std.specs.Prelude.{ℕ, ◌<◌, ◌≡◌, length, Option, Some, None, Result, Ok, Err}
+use Rattle.std.specs.declared.io.Error.{Error}
 use mathlib.Core.List.{List, [], ◌∷◌, ◌++◌, flatten}
 use Rattle.line.specs.Held.{Holds, held_after}
 use Rattle.line.specs.declared.Line.{Line}
-use Rattle.streams.specs.Log.{Entry, end_of_input, read_failed, write_failed, read_in, written_in, failures_in, Logged}
+use Rattle.streams.specs.Log.{read_in, written_in, failures_in, Logged}
 use Rattle.streams.specs.Parts.{OfBytes, one_read, writes}
+use Rattle.streams.specs.declared.Entry.{Entry}
+use Rattle.streams.specs.declared.Entry.TheVariants.{EndOfInput, ReadFailed, WriteFailed}
 use Rattle.treenum.specs.Treenum.{printed_for, put_after}
-use Rattle.treenum.specs.declared.Put.{Put}
-use Rattle.treenum.specs.declared.Put.TheVariants.{Kept, Broken}
-use Rattle.treenum.specs.declared.Turn.{Turn}
-use Rattle.treenum.specs.declared.Turn.TheVariants.{On, Stop}
-use Rattle.treenum.specs.declared.Ending.{Ending}
-use Rattle.treenum.specs.declared.Ending.TheVariants.{Done, ReadFailed, WriteFailed, TooManyReads}
+use Rattle.treenum.specs.declared.Failure.{Failure}
+use Rattle.treenum.specs.declared.Failure.TheVariants.{Read, Write, TooManyReads}
 
 -- ---- the log of a run
 
@@ -28,22 +27,22 @@ Parts (p ∷ ps) = ((0 < length p) × OfBytes p) × Parts ps
 
 -- the end of the input is found, and what is printed for the bytes held, a last line without byte 10, is written
 abbrev pub at_end : (held : List ℕ) → List Entry
-at_end held = end_of_input ∷ writes (printed_for held)
+at_end held = EndOfInput ∷ writes (printed_for held)
 
 -- A write failed, and nothing came after it: that of answers to the lines which the first bytes of a part end; or that at the end of the input
 pub data FailsToWrite (held : List ℕ) (tail : List Entry) : Type 0 where
-  after_read : (fed rest : List ℕ) → OfBytes (fed ++ rest) → tail ≡ one_read (fed ++ rest) ++ (writes (put_after held fed) ++ write_failed ∷ []) → FailsToWrite held tail
-  has_ended : tail ≡ at_end held ++ write_failed ∷ [] → FailsToWrite held tail
+  after_read : (fed rest : List ℕ) → OfBytes (fed ++ rest) → tail ≡ one_read (fed ++ rest) ++ (writes (put_after held fed) ++ WriteFailed ∷ []) → FailsToWrite held tail
+  has_ended : tail ≡ at_end held ++ WriteFailed ∷ [] → FailsToWrite held tail
 
 -- how the log of a run ends, after so many reads and with bytes held; only after 2^64 - 1 reads does a run give up
-abbrev pub Ends : (reads : ℕ) (held : List ℕ) → Ending → (tail : List Entry) → Type 0
-Ends reads held Done tail = tail ≡ at_end held
-Ends reads held ReadFailed tail = tail ≡ read_failed ∷ []
-Ends reads held WriteFailed tail = FailsToWrite held tail
-Ends reads held TooManyReads tail = (reads ≡ 18446744073709551615) × (tail ≡ [])
+abbrev pub Ends : (reads : ℕ) (held : List ℕ) → Result Unit Failure → (tail : List Entry) → Type 0
+Ends reads held (Ok done) tail = tail ≡ at_end held
+Ends reads held (Err (Read reason)) tail = tail ≡ ReadFailed ∷ []
+Ends reads held (Err (Write reason)) tail = FailsToWrite held tail
+Ends reads held (Err TooManyReads) tail = (reads ≡ 18446744073709551615) × (tail ≡ [])
 
 -- the log of a run that ends so
-pub record IsRun (ending : Ending) (log : List Entry) : Type 0 where
+pub record IsRun (ending : Result Unit Failure) (log : List Entry) : Type 0 where
   pub parts : List (List ℕ)
   pub of_parts : Parts parts
   pub tail : List Entry
@@ -57,12 +56,12 @@ pub record Breaks (held bytes : List ℕ) (before after : ℕ) : Type 0 where
   pub fed : List ℕ
   pub rest : List ℕ
   pub split : bytes ≡ fed ++ rest
-  pub logged : Logged before after (writes (put_after held fed) ++ write_failed ∷ [])
+  pub logged : Logged before after (writes (put_after held fed) ++ WriteFailed ∷ [])
 
 -- the bytes of a read are fed: what is then held, and the answers to the lines that they end are written; or a write failed
-abbrev pub Feeds : (held bytes : List ℕ) → Put → (text : List ℕ) (before after : ℕ) → Type 0
-Feeds held bytes (Kept line) text before after = Holds (held_after held bytes) line text × Logged before after (writes (put_after held bytes))
-Feeds held bytes Broken text before after = Breaks held bytes before after
+abbrev pub Feeds : (held bytes : List ℕ) → Result Line Error → (text : List ℕ) (before after : ℕ) → Type 0
+Feeds held bytes (Ok line) text before after = Holds (held_after held bytes) line text × Logged before after (writes (put_after held bytes))
+Feeds held bytes (Err reason) text before after = Breaks held bytes before after
 
 -- one read, and what is done before the next
 pub record TakesPart (held : List ℕ) (line : Line) (text : List ℕ) (before after : ℕ) : Type 0 where
@@ -72,19 +71,20 @@ pub record TakesPart (held : List ℕ) (line : Line) (text : List ℕ) (before a
   pub logged : Logged before after (one_read bytes ++ writes (put_after held bytes))
 
 -- the run ends
-pub record Stops (reads : ℕ) (held : List ℕ) (ending : Ending) (before after : ℕ) : Type 0 where
+pub record Stops (reads : ℕ) (held : List ℕ) (ending : Result Unit Failure) (before after : ℕ) : Type 0 where
   pub tail : List Entry
   pub ends : Ends reads held ending tail
   pub logged : Logged before after tail
 
 -- One turn of the run: it goes on after a read, or ends. A turn does not know how many reads there were, so it promises this for every number of
 -- them: it cannot give up
-abbrev pub Turned : (reads : ℕ) (held : List ℕ) → Turn → (text : List ℕ) (before after : ℕ) → Type 0
-Turned reads held (On line) text before after = TakesPart held line text before after
-Turned reads held (Stop ending) text before after = Stops reads held ending before after
+abbrev pub Turned : (reads : ℕ) (held : List ℕ) → Result (Option Line) Failure → (text : List ℕ) (before after : ℕ) → Type 0
+Turned reads held (Ok (Some line)) text before after = TakesPart held line text before after
+Turned reads held (Ok None) text before after = Stops reads held (Ok tt) before after
+Turned reads held (Err failure) text before after = Stops reads held (Err failure) before after
 
 -- the whole run
-pub record Ran (ending : Ending) (before after : ℕ) : Type 0 where
+pub record Ran (ending : Result Unit Failure) (before after : ℕ) : Type 0 where
   pub log : List Entry
   pub is_run : IsRun ending log
   pub logged : Logged before after log
@@ -98,7 +98,7 @@ pub record Answered (log : List Entry) : Type 0 where
   -- what came before the read that found the end, and what was written after it
   pub earlier : List Entry
   pub last : List ℕ
-  pub to_end : log ≡ earlier ++ end_of_input ∷ writes last
+  pub to_end : log ≡ earlier ++ EndOfInput ∷ writes last
   pub none_failed : failures_in log ≡ []
   pub written : written_in log ≡ printed_for (read_in log)
 

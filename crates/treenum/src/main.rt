@@ -12,8 +12,10 @@ ghost use Rattle.treenum.specs.Treenum.{printed_for, PrintsLine};
 ghost use Rattle.treenum.specs.Run.{Feeds, Turned, Ran};
 
 use line::{Fed, Line, empty_line};
+use std::fmt::Display;
 use std::process::ExitCode;
-use streams::{Got, Stdio};
+use std::{fmt, io};
+use streams::{Reason, Stdio};
 
 // The rows of Figure 3, the accepting list, and the names of the symbols 1 and 2.
 const STATES: u64 = 5;
@@ -27,27 +29,22 @@ const ACCEPTING: [u16; 2] = [2, 4];
 
 const NAMES: [u8; 4] = [b'a', b'\n', b'b', b'\n'];
 
-// The line so far, or a write failed.
+// Why a run ends before all is answered: a read failed; a write failed; or there were more reads than can be counted.
 #[derive(Clone, Copy)]
-enum Put {
-    Kept(Line),
-    Broken,
-}
-
-// How a run ends: the input has ended and all is answered; a read failed; a write failed; or there were more reads than can be counted.
-#[derive(Clone, Copy)]
-enum Ending {
-    Done,
-    ReadFailed,
-    WriteFailed,
+enum Failure {
+    Read(io::Error),
+    Write(io::Error),
     TooManyReads,
 }
 
-// After a read: the input goes on, or the run ends.
-#[derive(Clone, Copy)]
-enum Turn {
-    On(Line),
-    Stop(Ending),
+impl Display for Failure {
+    fn fmt<W: fmt::Write>(&self, f: &mut fmt::Formatter<W>) -> fmt::Result {
+        match self {
+            Failure::Read(error) => write!(f, "cannot read: {}", Reason(*error)),
+            Failure::Write(error) => write!(f, "cannot write: {}", Reason(*error)),
+            Failure::TooManyReads => f.write_str("the input has not ended"),
+        }
+    }
 }
 
 // Feeds the bytes from a place on, to the end of the bytes or until the list may have no room for one answer more; puts what is to be printed.
@@ -74,44 +71,45 @@ fn last_line(line: Line, text: &[u8], out: &mut [u8]) -> usize
 
 // Feeds the bytes of a read, and writes what is to be printed.
 fn feed_all(
-    line: Line,
+    mut line: Line,
     bytes: &[u8],
     text: &mut [u8],
     out: &mut [u8],
     stdio: &mut Stdio,
     log: &mut u64,
-) -> Put
+) -> io::Result<Line>
     requires holding { Holding line text.old }
     requires longest_line_in_bounds { longest_line ≤ length out.old }
     ensures { (held : List ℕ) → Holds held line text.old
         → Feeds held bytes.now result text.new log.old log.new }
 {
-    let mut so_far = line;
-    let mut i: usize = 0;
+    let mut i = 0;
     while i < bytes.len() {
-        let fed = gather(so_far, bytes, i, &mut *text, &mut *out);
-        let n = fed.count;
-        if !streams::write_part(&mut *stdio, &mut *log, &out[..n]) {
-            return Put::Broken;
-        }
-        let l = fed.line;
-        so_far = l;
+        let fed = gather(line, bytes, i, text, out);
+        streams::write_part(stdio, log, &out[..fed.count])?;
+        line = fed.line;
         i = fed.next;
     }
-    Put::Kept(so_far)
+    Ok(line)
 }
 
 // Writes what is to be printed where the input ends.
-fn finish(line: Line, text: &[u8], out: &mut [u8], stdio: &mut Stdio, log: &mut u64) -> bool
+fn finish(
+    line: Line,
+    text: &[u8],
+    out: &mut [u8],
+    stdio: &mut Stdio,
+    log: &mut u64,
+) -> io::Result<()>
     requires holding { Holding line text.now }
     requires longest_line_in_bounds { longest_line ≤ length out.old }
     ensures { (held : List ℕ) → Holds held line text.now → Wrote log.old log.new (printed_for held) result }
 {
-    let n = last_line(line, text, &mut *out);
+    let n = last_line(line, text, out);
     streams::write_part(stdio, log, &out[..n])
 }
 
-// One read: its bytes are fed and what is to be printed is written, or the run ends.
+// One read: its bytes are fed and what is to be printed is written. Gives the line so far, or nothing where the input has ended.
 fn take_turn(
     line: Line,
     chunk: &mut [u8],
@@ -119,30 +117,26 @@ fn take_turn(
     out: &mut [u8],
     stdio: &mut Stdio,
     log: &mut u64,
-) -> Turn
+) -> Result<Option<Line>, Failure>
     requires holding { Holding line text.old }
     requires chunk_nonzero { (0 < length chunk.old) × (longest_line ≤ length out.old) }
     ensures { (reads : ℕ) (held : List ℕ) → Holds held line text.old
         → Turned reads held result text.new log.old log.new }
 {
-    match streams::read_part(&mut *stdio, &mut *log, &mut *chunk) {
-        Got::Bytes(n) => match feed_all(line, &chunk[..n], text, out, stdio, log) {
-            Put::Kept(l) => Turn::On(l),
-            Put::Broken => Turn::Stop(Ending::WriteFailed),
-        },
-        Got::End => {
-            if finish(line, &*text, out, stdio, log) {
-                Turn::Stop(Ending::Done)
-            } else {
-                Turn::Stop(Ending::WriteFailed)
-            }
+    match streams::read_part(stdio, log, chunk).map_err(Failure::Read)? {
+        Some(n) => {
+            let next = feed_all(line, &chunk[..n], text, out, stdio, log).map_err(Failure::Write)?;
+            Ok(Some(next))
         }
-        Got::Failed => Turn::Stop(Ending::ReadFailed),
+        None => {
+            finish(line, text, out, stdio, log).map_err(Failure::Write)?;
+            Ok(None)
+        }
     }
 }
 
-// The whole run: reads the input to its end and writes what is to be printed for it, unless a read or a write fails; says how it ended.
-fn run(stdio: &mut Stdio, log: &mut u64) -> Ending
+// The whole run: reads the input to its end and writes what is to be printed for it, unless a read or a write fails.
+fn run(stdio: &mut Stdio, log: &mut u64) -> Result<(), Failure>
     ensures { Ran result log.old log.new }
 {
     let mut chunk = [0u8; 16384];
@@ -150,44 +144,23 @@ fn run(stdio: &mut Stdio, log: &mut u64) -> Ending
     // 16,384 bytes, and room for one answer more
     let mut out = [0u8; 69633];
     let mut line = empty_line();
-    let mut turns = u64::MAX;
-    while turns > 0 {
-        match take_turn(
-            line,
-            &mut chunk,
-            &mut text,
-            &mut out,
-            &mut *stdio,
-            &mut *log,
-        ) {
-            Turn::On(l) => {
-                line = l;
-            }
-            Turn::Stop(ending) => {
-                return ending;
-            }
+    for _ in 0..u64::MAX {
+        match take_turn(line, &mut chunk, &mut text, &mut out, stdio, log)? {
+            Some(next) => line = next,
+            None => return Ok(()),
         }
-        turns -= 1;
     }
-    Ending::TooManyReads
+    Err(Failure::TooManyReads)
 }
 
 fn main(rt: HostRuntime) -> ExitCode {
     let mut stdio = Stdio::new(rt);
     let mut log: u64 = 0;
     match run(&mut stdio, &mut log) {
-        Ending::Done => {
-            return ExitCode::SUCCESS;
-        }
-        Ending::ReadFailed => {
-            streams::say_failed(&stdio, b"treenum: cannot read");
-        }
-        Ending::WriteFailed => {
-            streams::say_failed(&stdio, b"treenum: cannot write");
-        }
-        Ending::TooManyReads => {
-            streams::say(&stdio, b"treenum: the input has not ended\n");
+        Ok(()) => ExitCode::SUCCESS,
+        Err(failure) => {
+            streams::say(&stdio, format_args!("treenum: {failure}"));
+            ExitCode::FAILURE
         }
     }
-    ExitCode::FAILURE
 }

@@ -38,32 +38,35 @@ module _ {pool words first counts sums : List ℕ} {q value : ℕ} (x : ValueRea
     pub going_begins : Going counts q (args_in pool e.word) e.weight e.rest 0
     going_begins = record { below = lower_args; weighs = rw (row_entered y) at y.weighs; falls = y.falls }
 
-  module _ {args : List ℕ} {w h k : ℕ} (g : Going counts q args w h k) (lt : k < length args) where
-    abbrev a : ℕ
-    a = get_or args k 0
+  module _ {args : List ℕ} {w h k : ℕ} (g : Going counts q args w h k) (lt : k < length args) (a : ℕ) (at : a ≡ get_or args k 0) where
+    below : a < q
+    below = rw at (g.below k lt)
+
+    child_next : drop k args ≡ a ∷ drop (k + 1) args
+    child_next = rw at (drop_next args k lt)
 
     abbrev w' : ℕ
     w' = w / held counts a
 
     shares : Share (held counts) a (drop (k + 1) args) w h
-    shares = share (held counts) a (drop (k + 1) args) w h (g.weighs ∙ ap (λ (l : List ℕ). product (map (held counts) l)) (drop_next args k lt)) g.falls
+    shares = share (held counts) a (drop (k + 1) args) w h (g.weighs ∙ ap (λ (l : List ℕ). product (map (held counts) l)) child_next) g.falls
 
-    pub shared : Shared args counts k w
-    shared = record { inside = lt; state = omega (arith, g.below k lt, x.state, x.ready.counts_room); some = shares.counts; others = shares.positive }
+    pub shared : Shared counts a w
+    shared = record { state = omega (arith, below, x.state, x.ready.counts_room); some = shares.counts; others = shares.positive }
 
     kids_are : kids_in rows counts q (drop k args) w h ≡ value_entries rows counts a (h / w') ++ kids_in rows counts q (drop (k + 1) args) w' (h % w')
-    kids_are = ap (λ (l : List ℕ). kids_in rows counts q l w h) (drop_next args k lt) ∙ kids_next rows counts q x.ready.good.ordered a (g.below k lt) (drop (k + 1) args) w h
+    kids_are = ap (λ (l : List ℕ). kids_in rows counts q l w h) child_next ∙ kids_next rows counts q x.ready.good.ordered a below (drop (k + 1) args) w h
 
-    module _ (c : Child) (e : c ≡ child_of args counts k w h) where
+    module _ (c : Child) (e : c ≡ child_of counts a w h) where
       pub child_lower : c.state < q
-      child_lower = rw e (g.below k lt)
+      child_lower = rw e below
 
       pub child_valued : ValueReady pool words first counts sums c.state c.value
       child_valued = rw e (record {
         states = x.states;
         accepting = x.accepting;
         ready = x.ready;
-        state = omega (arith, g.below k lt, x.state);
+        state = omega (arith, below, x.state);
         less = shares.value;
       })
 
@@ -90,15 +93,15 @@ module _ {pool words first counts sums : List ℕ} {q value : ℕ} (x : ValueRea
   }
 
   module _ {args : List ℕ} {w h n k : ℕ} (m : Measuring (rows_in pool words) counts q value args w h n k) where
-    module _ (lt : k < length args) (c : Child) (e : c ≡ child_of args counts k w h) (r : ℕ) (o : r ≡ length (value_entries (rows_in pool words) counts c.state c.value)) where
+    module _ (lt : k < length args) (a : ℕ) (at : a ≡ get_or args k 0) (c : Child) (e : c ≡ child_of counts a w h) (r : ℕ) (o : r ≡ length (value_entries (rows_in pool words) counts c.state c.value)) where
       pub measure_next : Measuring (rows_in pool words) counts q value args c.weight c.rest (n + r) (k + 1)
       measure_next = record {
-        going = going_next x m.going lt c e;
+        going = going_next x m.going lt a at c e;
         sum = omega (
           arith,
           m.sum,
           o,
-          ap length (kids_turn x m.going lt c e),
+          ap length (kids_turn x m.going lt a at c e),
           length-append (value_entries (rows_in pool words) counts c.state c.value) (kids_in (rows_in pool words) counts q (drop (k + 1) args) c.weight c.rest),
         );
       }

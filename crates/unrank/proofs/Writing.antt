@@ -3,7 +3,7 @@ use Prim.Native.Nat.{ℕ, ◌+◌, ◌-◌, ◌<◌, ◌≤◌}
 use mathlib.Core.Path.{◌≡◌, refl, sym, ap, ◌∙◌}
 use mathlib.Core.List.{List, [], ◌∷◌, ◌++◌, append_assoc, append-nil}
 use native.Mathlib.Omega.{arith}
-use lib.ListN.{length, take, drop, set, drop_of_length-le, length-append, length-take, length-drop, length-set}
+use lib.ListN.{length, get_or, take, drop, set, drop_of_length-le, length-append, length-take, length-drop, length-set}
 use lib.Seq.{take_all, drop-drop, drop-set-lt}
 use Rattle.model.specs.Table.{Row}
 use Rattle.model.proofs.Writing.{Writing, writing_length, rest_fits, piece_fits, piece_written, writing_last, one_set}
@@ -79,7 +79,7 @@ module _ {pool words first counts sums : List ℕ} {q value : ℕ} (x : ValueRea
   }
 
   module _ {old args new : List ℕ} {w h at k : ℕ} (t : WritingTree rows counts q value old args new w h at k) where
-    module _ (lt : k < length args) (c : Child) (e : c ≡ child_of args counts k w h) where
+    module _ (lt : k < length args) (a : ℕ) (at_k : a ≡ get_or args k 0) (c : Child) (e : c ≡ child_of counts a w h) where
       abbrev piece : List ℕ
       piece = value_entries rows counts c.state c.value
 
@@ -88,7 +88,7 @@ module _ {pool words first counts sums : List ℕ} {q value : ℕ} (x : ValueRea
 
       turns : Writing old new (value_entries rows counts q value) (piece ++ others) at
       turns =
-          rw (sym (append_assoc piece (kids_in rows counts q (drop (k + 1) args) c.weight c.rest) (0 ∷ []))) (rw (kids_turn x t.going lt c e) at t.writes)
+          rw (sym (append_assoc piece (kids_in rows counts q (drop (k + 1) args) c.weight c.rest) (0 ∷ []))) (rw (kids_turn x t.going lt a at_k c e) at t.writes)
 
       pub child_room : length piece ≤ length (take (length new - at) (drop at new))
       child_room = part_room piece others turns
@@ -98,7 +98,7 @@ module _ {pool words first counts sums : List ℕ} {q value : ℕ} (x : ValueRea
 
       pub tree_next : (ys : List ℕ) (n : ℕ) → Wrote rows counts c.state c.value (take (length new - at) (drop at new)) ys n
           → WritingTree rows counts q value old args (take at new ++ (ys ++ drop (length new - at) (drop at new))) c.weight c.rest (at + n) (k + 1)
-      tree_next ys n o = record { going = going_next x t.going lt c e; writes = part_put piece others turns ys n o.many o.holds }
+      tree_next ys n o = record { going = going_next x t.going lt a at_k c e; writes = part_put piece others turns ys n o.many o.holds }
 
     module _ (ge : length args ≤ k) where
       bar_left : Writing old new (value_entries rows counts q value) (0 ∷ []) at

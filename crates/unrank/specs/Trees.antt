@@ -31,17 +31,15 @@ pub record Enters (pool words counts : List ℕ) (q value : ℕ) (e : Entered) :
   pub weighs : e.weight ≡ product (map (held counts) (row_no (rows_in pool words) row).args)
   pub falls : e.rest < e.weight
 
--- child k is a state that counts more than 0, and so do the children after it
-pub record Shared (args counts : List ℕ) (k w : ℕ) : Type 0 where
-  pub inside : k < length args
-  pub state : get_or args k 0 < length counts
-  pub some : 0 < held counts (get_or args k 0)
-  pub others : 0 < w / held counts (get_or args k 0)
+-- a child's state a counts more than 0, and so do the children after it
+pub record Shared (counts : List ℕ) (a w : ℕ) : Type 0 where
+  pub state : a < length counts
+  pub some : 0 < held counts a
+  pub others : 0 < w / held counts a
 
 -- "for each child divide w by the child's count; the child's value is h divided by w, rounded down, and h becomes the remainder"
-abbrev pub child_of : (args counts : List ℕ) (k w h : ℕ) → Child
-child_of args counts k w h =
-    let a = get_or args k 0 in
+abbrev pub child_of : (counts : List ℕ) (a w h : ℕ) → Child
+child_of counts a w h =
     let w' = w / held counts a in
     record { state = a; value = h / w'; weight = w'; rest = h % w' }
 

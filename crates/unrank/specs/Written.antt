@@ -1,9 +1,8 @@
 -- What writing the tree of a number leaves. Assumes nothing: these are definitions.
-use Rattle.std.specs.Prelude.{ℕ, ◌≡◌, not, List, length, ltb, if◌then◌else◌}
+use Rattle.std.specs.Prelude.{ℕ, ◌≡◌, not, List, length, ltb, if◌then◌else◌, Result}
 use Rattle.model.specs.Answers.{Outcome, refused, outcome, lent_after}
 use Rattle.model.specs.Table.{Row}
 use Rattle.model.specs.Write.{tree_fits}
-use Rattle.std.specs.Prelude.{Result}
 use Rattle.model.specs.declared.Refusal.{Refusal}
 use Rattle.unrank.specs.Trees.{spot_of, value_entries}
 

@@ -7,7 +7,6 @@ ghost use Rattle.unrank.specs.UnrankReady.{ValueReady, WriteReady, NumberReady};
 ghost use Rattle.unrank.specs.Trees.{Opening, opened_at, Enters, Shared, child_of, value_entries, Wrote, ListReady, spot_of};
 ghost use Rattle.unrank.specs.Written.{WroteNumber, WroteBelow};
 
-use chains::wide;
 use model::{Answer, Kind, refuse};
 
 // The row in which a value falls: its word, what it counts, and the value less what the state's earlier rows count.
@@ -59,7 +58,7 @@ fn find_row(
     requires { ValueReady pool.now words.now first.now counts.now sums.now q value }
     ensures { Enters pool.now words.now counts.now q value result }
 {
-    let mut r = wide(first[q]) - 1;
+    let mut r = usize::from(first[q]) - 1;
     let mut p = rows::after_in(words[r]);
     while 0 < p {
         let end = sums[p - 1];
@@ -72,18 +71,17 @@ fn find_row(
     enter_row(words, sums, r, counts[q], value)
 }
 
-// Child k of a row, where w is the product of the counts of the children from k on, and h is what is left of the value for them.
-fn child_at(args: &[u16], counts: &[u64], k: usize, w: u64, h: u64) -> Child
-    requires { Shared args.now counts.now k w }
-    ensures { result ≡ child_of args.now counts.now k w h }
+// The child in state a, where w is the product of its count and those of the children after it, and h is what is left of the value for them.
+fn child_at(a: usize, counts: &[u64], w: u64, h: u64) -> Child
+    requires { Shared counts.now a w }
+    ensures { result ≡ child_of counts.now a w h }
 {
-    let a = wide(args[k]);
-    let below = w / counts[a];
+    let weight = w / counts[a];
     Child {
         state: a,
-        value: h / below,
-        weight: below,
-        rest: h % below,
+        value: h / weight,
+        weight,
+        rest: h % weight,
     }
 }
 
@@ -101,22 +99,20 @@ fn tree_length(
     ensures { result ≡ length (value_entries (rows_in pool.now words.now) counts.now q value) }
 {
     let row = find_row(pool, words, first, counts, sums, q, value);
-    let args = rows::args_in(pool, row.word);
     let mut w = row.weight;
     let mut h = row.rest;
     let mut n: usize = 2;
-    let mut k: usize = 0;
-    while k < args.len() {
-        let child = child_at(args, counts, k, w, h);
+    for a in rows::args_in(pool, row.word) {
+        let child = child_at(usize::from(*a), counts, w, h);
         w = child.weight;
         h = child.rest;
-        n = n + tree_length(pool, words, first, counts, sums, child.state, child.value);
-        k += 1;
+        n += tree_length(pool, words, first, counts, sums, child.state, child.value);
     }
     n
 }
 
 // Writes the tree of a value in state q at the front of `out`, and gives how many entries it has.
+// (The walk is `tree_length`'s. As one function it would need a trait for where the entries go and two types with it: more than the loop it saves.)
 fn write_tree(
     pool: &[u16],
     words: &[u64],
@@ -132,28 +128,24 @@ fn write_tree(
     ensures { Wrote (rows_in pool.now words.now) counts.now q value out.old out.new result }
 {
     let row = find_row(pool, words, first, counts, sums, q, value);
-    let args = rows::args_in(pool, row.word);
     let mut w = row.weight;
     let mut h = row.rest;
     out[0] = rows::symbol_in(row.word);
     let mut at: usize = 1;
-    let mut k: usize = 0;
-    while k < args.len() {
-        let child = child_at(args, counts, k, w, h);
+    for a in rows::args_in(pool, row.word) {
+        let child = child_at(usize::from(*a), counts, w, h);
         w = child.weight;
         h = child.rest;
-        at = at
-            + write_tree(
-                pool,
-                words,
-                first,
-                counts,
-                sums,
-                child.state,
-                child.value,
-                &mut out[at..],
-            );
-        k += 1;
+        at += write_tree(
+            pool,
+            words,
+            first,
+            counts,
+            sums,
+            child.state,
+            child.value,
+            &mut out[at..],
+        );
     }
     out[at] = 0;
     at + 1
@@ -164,18 +156,16 @@ fn find_state(accepting: &[u16], counts: &[u64], number: u64) -> Spot
     requires { ListReady accepting.now counts.now number }
     ensures { result ≡ spot_of accepting.now counts.now number }
 {
-    let mut i: usize = 0;
-    let mut rest = number;
-    let mut q = wide(accepting[0]);
-    while counts[q] <= rest {
-        rest -= counts[q];
-        i += 1;
-        q = wide(accepting[i]);
+    let mut value = number;
+    for a in accepting {
+        let state = usize::from(*a);
+        if value < counts[state] {
+            return Spot { state, value };
+        }
+        value -= counts[state];
     }
-    Spot {
-        state: q,
-        value: rest,
-    }
+    // the number is below what the states count together
+    unreachable!()
 }
 
 // Writes the tree of a number below the total where it fits.
@@ -193,14 +183,12 @@ fn write_number(
     ensures { WroteNumber (rows_in pool.now words.now) accepting.now counts.now number
         tree.old tree.new result }
 {
-    let spot = find_state(accepting, counts, number);
-    let q = spot.state;
-    let value = spot.value;
-    let needed = tree_length(pool, words, first, counts, sums, q, value);
+    let Spot { state, value } = find_state(accepting, counts, number);
+    let needed = tree_length(pool, words, first, counts, sums, state, value);
     if tree.len() < needed {
         return Err(refuse(Kind::ShortTreeList, needed as u64));
     }
-    write_tree(pool, words, first, counts, sums, q, value, tree);
+    write_tree(pool, words, first, counts, sums, state, value, tree);
     Ok(needed as u64)
 }
 

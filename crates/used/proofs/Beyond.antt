@@ -1,7 +1,7 @@
 -- The first state, and the first used one, that is beyond a limit. Assumes nothing.
-use Rattle.std.specs.Prelude.{if◌then◌else◌}
+use Rattle.std.specs.Prelude.{if◌then◌else◌, Option, Some, None, MatchOption}
 use Prim.Native.Nat.{ℕ, ◌+◌, ◌<◌, ◌≤◌}
-use mathlib.Core.Path.{◌≡◌, sym, ap, ◌∙◌}
+use mathlib.Core.Path.{◌≡◌, refl, sym, ap, ◌∙◌}
 use mathlib.Core.Bool.{Bool, true, false}
 use mathlib.Core.List.{List}
 use native.Mathlib.Decide.{dec_le}
@@ -23,8 +23,6 @@ use Rattle.counts.specs.Marks.{long_in, over_in}
 use Rattle.counts.specs.States.{held}
 use Rattle.used.specs.Marked.{is_set}
 use Rattle.used.specs.Limits.{Measures, FineFrom, BeyondAt, BeyondFrom, FaultFrom, FirstUsed}
-use Rattle.used.specs.declared.StateFault.{StateFault}
-use Rattle.used.specs.declared.StateFault.TheVariants.{At, Nothing}
 
 -- ---- one state
 
@@ -71,25 +69,26 @@ module _ (states : ℕ) (ms : List ℕ) (from : ℕ) where
     fine_there : (T : Table) → T.states ≡ states → Measures T ms → (n : ℕ) → n ≤ q → n ≤ states → FineFrom T from n
     fine_there T e m n le i a h l = ground_held T ms m a (omega arith) ∙ x.fine a h (omega arith)
 
-    found : q < states → (k : Kind) → held_ground ms q ≡ kind_number k → BeyondFrom states ms from (At q k)
+    found : q < states → (k : Kind) → held_ground ms q ≡ kind_number k → BeyondFrom states ms from (Some (q, k))
     found l k g = record {
-      inside = λ q' k' e. let a : q ≡ q' = cc in rw (← a) (x.after, l);
+      inside = λ q' k' e. let p : ◌≡◌ {A = ℕ × Kind} (q, k) (q', k') = cc in let a : q ≡ q' = ap (λ (f : ℕ × Kind). f.0) p in rw (← a) (x.after, l);
       at = λ T s m q' k' e. there T s m q' k' e;
       none = λ T s m e. let z : ◌≡◌ {A = ℕ} 0 1 = cc in absurd (omega arith);
     }
       where
-        there : (T : Table) → T.states ≡ states → Measures T ms → (q' : ℕ) (k' : Kind) → At q k ≡ At q' k' → BeyondAt T from q' (kind_number k')
+        there : (T : Table) → T.states ≡ states → Measures T ms → (q' : ℕ) (k' : Kind) → ◌≡◌ {A = Option (ℕ × Kind)} (Some (q, k)) (Some (q', k')) → BeyondAt T from q' (kind_number k')
         there T s m q' k' e =
-            let a : q ≡ q' = cc in
-            let b : k ≡ k' = cc in
+            let p : ◌≡◌ {A = ℕ × Kind} (q, k) (q', k') = cc in
+            let a : q ≡ q' = ap (λ (f : ℕ × Kind). f.0) p in
+            let b : k ≡ k' = ap (λ (f : ℕ × Kind). f.1) p in
             rw (← a, ← b) (record { after = x.after; inside = omega arith; before = fine_there T s m q (omega arith) (omega arith); here = ground_held T ms m q (omega arith) ∙ g })
 
     module _ (above : Bool) (is : above ≡ held_above ms q) where
-      pub found_count : q < states → above ≡ true → (k : Kind) → 9 ≡ kind_number k → BeyondFrom states ms from (At q k)
+      pub found_count : q < states → above ≡ true → (k : Kind) → 9 ≡ kind_number k → BeyondFrom states ms from (Some (q, k))
       found_count l t k e = found l k (if_yes (held_above ms q) 9 _ (sym is ∙ t) ∙ e)
 
       module _ (long : ℕ) (measured : long ≡ long_in (held ms q)) (low : above ≡ false) where
-        pub found_long : q < states → 4096 < long → (k : Kind) → 10 ≡ kind_number k → BeyondFrom states ms from (At q k)
+        pub found_long : q < states → 4096 < long → (k : Kind) → 10 ≡ kind_number k → BeyondFrom states ms from (Some (q, k))
         found_long l t k e =
             found l k (if_no (held_above ms q) 9 _ (sym is ∙ low) ∙ if_yes (ltb 4096 (long_in (held ms q))) 10 0 (lt-ltb 4096 (long_in (held ms q)) (rw measured at t)) ∙ e)
 
@@ -103,7 +102,7 @@ module _ (states : ℕ) (ms : List ℕ) (from : ℕ) where
             go a h l (yes y) = let e : a ≡ q = omega arith in rw e here
             go a h l (no y) = x.fine a h (omega arith)
 
-    pub found_none : states ≤ q → BeyondFrom states ms from Nothing
+    pub found_none : states ≤ q → BeyondFrom states ms from None
     found_none le = record {
       inside = λ q' k' e. let z : ◌≡◌ {A = ℕ} 0 1 = cc in absurd (omega arith);
       at = λ T s m q' k' e. let z : ◌≡◌ {A = ℕ} 0 1 = cc in absurd (omega arith);
@@ -112,11 +111,9 @@ module _ (states : ℕ) (ms : List ℕ) (from : ℕ) where
 
 -- ---- the number of the first state beyond a limit
 
-pub place_at : (states : ℕ) (ms : List ℕ) (r : StateFault) → BeyondFrom states ms 0 r → (q : ℕ) (k : Kind) → r ≡ At q k → FaultFrom states ms q
-place_at states ms r f q k e = record { fine = λ T s m. (f.at T s m q k e).before }
-
-pub place_none : (states : ℕ) (ms : List ℕ) (r : StateFault) → BeyondFrom states ms 0 r → r ≡ Nothing → FaultFrom states ms states
-place_none states ms r f e = record { fine = λ T s m. f.none T s m e }
+pub place_of : (states : ℕ) (ms : List ℕ) (r : Option (ℕ × Kind)) (n : ℕ) → BeyondFrom states ms 0 r → MatchOption r (n ≡ states) (λ f. n ≡ f.0) → FaultFrom states ms n
+place_of states ms None n f e = record { fine = λ T s m. rw e (f.none T s m refl) }
+place_of states ms (Some (q, k)) n f e = record { fine = λ T s m. rw e (f.at T s m q k refl).before }
 
 -- ---- the used states in turn
 
@@ -129,8 +126,8 @@ module _ (states : ℕ) (ms used : List ℕ) where
   none_begins from f = record { fine = λ T s m u a l. ground_clear count_limit T a (f.fine T s m a (omega arith) l) }
 
   module _ {q : ℕ} (x : NoneBefore states ms used q) where
-    module _ (r : StateFault) (f : BeyondFrom states ms q r) where
-      module _ (a : ℕ) (k : Kind) (e : r ≡ At a k) where
+    module _ (r : Option (ℕ × Kind)) (f : BeyondFrom states ms q r) where
+      module _ (a : ℕ) (k : Kind) (e : r ≡ Some (a, k)) where
         before : (T : Table) → T.states ≡ states → Measures T ms → ((a : ℕ) → is_set used a ≡ is_used T a) → AllFine a (state_ground count_limit T)
         before T s m u b l = go (dec_le q b)
           where
@@ -138,7 +135,7 @@ module _ (states : ℕ) (ms used : List ℕ) where
             go (yes y) = ground_clear count_limit T b ((f.at T s m a k e).before b y l)
             go (no y) = x.fine T s m u b (omega arith)
 
-        pub fault_there : (get_or used a 0 ≡ 0 → ⊥) → FirstUsed states ms used (At a k)
+        pub fault_there : (get_or used a 0 ≡ 0 → ⊥) → FirstUsed states ms used (Some (a, k))
         fault_there ne = record {
           found = λ T s m u. record {
             fault = λ q' k' h. there T s m u q' k' h;
@@ -146,11 +143,12 @@ module _ (states : ℕ) (ms used : List ℕ) where
           };
         }
           where
-            there : (T : Table) → T.states ≡ states → Measures T ms → ((a : ℕ) → is_set used a ≡ is_used T a) → (q' : ℕ) (k' : Kind) → At a k ≡ At q' k'
+            there : (T : Table) → T.states ≡ states → Measures T ms → ((a : ℕ) → is_set used a ≡ is_used T a) → (q' : ℕ) (k' : Kind) → ◌≡◌ {A = Option (ℕ × Kind)} (Some (a, k)) (Some (q', k'))
                 → FirstAt states (state_ground count_limit T) q' (kind_number k')
             there T s m u q' k' h =
-                let y : a ≡ q' = cc in
-                let z : k ≡ k' = cc in
+                let p : ◌≡◌ {A = ℕ × Kind} (a, k) (q', k') = cc in
+                let y : a ≡ q' = ap (λ (f : ℕ × Kind). f.0) p in
+                let z : k ≡ k' = ap (λ (f : ℕ × Kind). f.1) p in
                 rw (← y, ← z) (record {
                   inside = (f.inside a k e).1;
                   before = before T s m u;
@@ -164,7 +162,7 @@ module _ (states : ℕ) (ms used : List ℕ) where
             go T s m u b l (yes y) = let i : b ≡ a = omega arith in rw i (ground_unused count_limit T a (sym (u a) ∙ ap (ltb 0) z))
             go T s m u b l (no y) = before T s m u b (omega arith)
 
-      pub fault_none : r ≡ Nothing → FirstUsed states ms used Nothing
+      pub fault_none : r ≡ None → FirstUsed states ms used None
       fault_none e = record {
         found = λ T s m u. record {
           fault = λ q' k' h. let z : ◌≡◌ {A = ℕ} 0 1 = cc in absurd (omega arith);
@@ -175,11 +173,3 @@ module _ (states : ℕ) (ms used : List ℕ) where
           go : (T : Table) → T.states ≡ states → Measures T ms → ((a : ℕ) → is_set used a ≡ is_used T a) → (b : ℕ) → b < states → Dec (q ≤ b) → state_ground count_limit T b ≡ 0
           go T s m u b l (yes y) = ground_clear count_limit T b (f.none T s m e b y l)
           go T s m u b l (no y) = x.fine T s m u b (omega arith)
-
-    pub none_ends : states ≤ q → FirstUsed states ms used Nothing
-    none_ends le = record {
-      found = λ T s m u. record {
-        fault = λ q' k' h. let z : ◌≡◌ {A = ℕ} 0 1 = cc in absurd (omega arith);
-        fine = λ h b l. x.fine T s m u b (omega arith);
-      };
-    }

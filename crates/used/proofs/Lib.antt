@@ -3,5 +3,5 @@ pub mod Walk
 pub mod Turn
 pub mod Pass
 pub mod Beyond
-pub mod Clearing
 pub mod Settling
+pub mod Clearing

@@ -12,16 +12,15 @@ use lib.ListN.{length, get_or, set, drop, drop_of_length-le, length-set}
 use lib.Seq.{get_or-set_same, get_or-set_other}
 use lib.Dec.{eqb, ltb}
 use borrow.Author.Tests.{eqb-true, eqb-false, lt-ltb, eq-eqb}
-use borrow.Author.Count.{below_more}
 use Rattle.model.specs.Choice.{any_below}
 use Rattle.model.specs.Count.{product}
 use Rattle.model.specs.Reach.{is_among}
 use Rattle.model.proofs.Lists.{drop_next}
-use Rattle.model.proofs.Choice.{or_left, not_both, any_true, any_some}
+use Rattle.model.proofs.Choice.{or_left, any_true, any_some}
 use Rattle.model.proofs.Counting.{factors_some}
 use Rattle.model.proofs.Used.{among_place, place_among}
 use Rattle.counts.specs.States.{held}
-use Rattle.used.specs.Marked.{is_set, NoneEmpty, ArgsSome, MarkedToo, row_names, listed_by, AllMarked}
+use Rattle.used.specs.Marked.{is_set, ArgsSome, MarkedToo, row_names, listed_by, AllMarked}
 
 -- ---- tests
 
@@ -45,28 +44,24 @@ module _ (cs args : List ℕ) where
   unfolding product
   from_next i l = rw (drop_next args i l)
 
-  pub pos_goes : (i a : ℕ) (b : Bool) → i < length args → a ≡ get_or args i 0 → 0 < get_or cs a 0 → ltb 0 (product (map (held cs) (drop i args))) ≡ b
-      → ltb 0 (product (map (held cs) (drop (i + 1) args))) ≡ b
-  pos_goes i a b l e p h = go (eq-zero-or-pos (product (map (held cs) (drop (i + 1) args)))) ∙ h
+  pub pos_goes : (i : ℕ) → i < length args → 0 < get_or cs (get_or args i 0) 0 → ltb 0 (product (map (held cs) (drop (i + 1) args))) ≡ ltb 0 (product (map (held cs) (drop i args)))
+  pos_goes i l x = go (eq-zero-or-pos (product (map (held cs) (drop (i + 1) args))))
     where
       P : ℕ
       P = product (map (held cs) (drop (i + 1) args))
-
-      x : 0 < held cs (get_or args i 0)
-      x = rw (← e) p
 
       go : (P ≡ 0) ⊎ (0 < P) → ltb 0 P ≡ ltb 0 (product (map (held cs) (drop i args)))
       go (inl z) = rw (from_next i l, z) (let w : held cs (get_or args i 0) * 0 ≡ 0 = omega arith in rw w)
       go (inr y) = lt-ltb 0 P y ∙ sym (rw (from_next i l) (lt-ltb 0 (held cs (get_or args i 0) * P) (mul-pos x y)))
 
-  pub pos_none : (i a : ℕ) (b : Bool) → i < length args → a ≡ get_or args i 0 → get_or cs a 0 ≡ 0 → ltb 0 (product (map (held cs) (drop i args))) ≡ b → false ≡ b
-  pos_none i a b l e z h =
-      let y : product (map (held cs) (drop i args)) ≡ 0 = from_next i l ∙ ap (λ (n : ℕ). n * product (map (held cs) (drop (i + 1) args))) (rw (← e) z) ∙ zero-mul _ in
-      sym (ap (ltb 0) y) ∙ h
+  pub pos_none : (i : ℕ) → i < length args → get_or cs (get_or args i 0) 0 ≡ 0 → ltb 0 (product (map (held cs) (drop i args))) ≡ false
+  pos_none i l z =
+      let y : product (map (held cs) (drop i args)) ≡ 0 = from_next i l ∙ ap (λ (n : ℕ). n * product (map (held cs) (drop (i + 1) args))) z ∙ zero-mul _ in
+      ap (ltb 0) y
 
-  pub pos_ends : (i : ℕ) (b : Bool) → length args ≤ i → ltb 0 (product (map (held cs) (drop i args))) ≡ b → true ≡ b
+  pub pos_ends : (i : ℕ) → length args ≤ i → ltb 0 (product (map (held cs) (drop i args))) ≡ true
   unfolding product
-  pos_ends i b ge h = rw (drop_of_length-le args {i = i} ge) at h
+  pos_ends i ge = rw (drop_of_length-le args {i = i} ge)
 
 -- ---- the states of a list
 
@@ -213,21 +208,6 @@ passes_marked cs used n s ne = one_more cs used n s (λ p. lt-ltb 0 (get_or used
 -- marks only grow
 pub marked_stays : (cs old used : List ℕ) (n : ℕ) (p : ℕ → Bool) → MarkedToo p old used → AllMarked cs old n → AllMarked cs used n
 marked_stays cs old used n p m s = record { marked = λ a l h. m.each a ∙ or_left (is_set old a) (p a) (s.marked a l h) }
-
--- ---- whether every state has trees
-
--- none of the first q states is empty
-abbrev pub SomeBelow : (cs : List ℕ) (q : ℕ) → Type 0
-SomeBelow cs q = (a : ℕ) → a < q → 0 < held cs a
-
-pub some_goes : (cs : List ℕ) (q : ℕ) → SomeBelow cs q → (get_or cs q 0 ≡ 0 → ⊥) → SomeBelow cs (q + 1)
-some_goes cs q h n = below_more (λ (a : ℕ). 0 < held cs a) q h (pos_of_ne-zero n)
-
-pub some_empty : (states : ℕ) (cs : List ℕ) → NoneEmpty false states cs
-some_empty states cs = record { some = λ e. absurd (not_both false e refl) }
-
-pub some_all : (states : ℕ) (cs : List ℕ) (q : ℕ) → SomeBelow cs q → states ≤ q → NoneEmpty true states cs
-some_all states cs q h l = record { some = λ e a i. h a (omega arith) }
 
 -- a row whose arguments have trees counts more than 0
 pub row_some : (full : Bool) (cs args : List ℕ) → ArgsSome full cs args → full ≡ true → true ≡ ltb 0 (product (map (held cs) args))

@@ -1,8 +1,8 @@
 -- Used states held to the limits: what is left then is as documents 01 and 02 say. Assumes nothing.
-use Rattle.std.specs.Prelude.{if◌then◌else◌}
+use Rattle.std.specs.Prelude.{if◌then◌else◌, Option, Some, None, Result, Ok, Err}
 use Prim.Native.Nat.{ℕ, ◌<◌, ◌≤◌, min}
 use mathlib.Core.Path.{◌≡◌, refl, sym, ap, ◌∙◌}
-use mathlib.Core.Bool.{Bool, true, false, ◌||◌}
+use mathlib.Core.Bool.{Bool, true, false}
 use mathlib.Core.List.{List}
 use mathlib.Core.Logic.{◌⊎◌, inl, inr}
 use native.Mathlib.Decide.{dec_le}
@@ -10,14 +10,15 @@ use native.Mathlib.Nat.{eq-zero-or-pos}
 use native.Mathlib.Omega.{arith}
 use lib.ListN.{length, get_or}
 use lib.Dec.{ltb}
-use borrow.Author.Tests.{ltb-false}
 use Rattle.model.specs.declared.Kind.{Kind}
+use Rattle.model.specs.declared.Refusal.{Refusal}
+use Rattle.model.specs.Answers.{refused, kind_number, refused_by}
 use Rattle.model.specs.Table.{Row, Table}
 use Rattle.model.specs.Count.{count}
 use Rattle.model.specs.Value.{earlier_rows}
 use Rattle.model.specs.Check.{count_limit, limit_ground, state_ground}
 use Rattle.model.specs.Used.{is_used, used_count}
-use Rattle.model.proofs.Choice.{if_no, or_false, not_both}
+use Rattle.model.proofs.Choice.{if_no, not_both}
 use Rattle.model.proofs.Counting.{count_beyond}
 use Rattle.model.proofs.Checked.{ground_used, ground_clear}
 use Rattle.model.proofs.Used.{used_marks, used_beyond, listed_marked}
@@ -33,8 +34,6 @@ use Rattle.counts.proofs.All.{count_same, longest_same, earlier_same}
 use Rattle.used.specs.Marked.{is_set, PassReady, FoundUsed}
 use Rattle.used.specs.Limits.{Measures, FaultFrom, FaultReady, FaultFound, FirstUsed}
 use Rattle.used.specs.Settled.{ClearReady, Cleared, SettleReady, Settled}
-use Rattle.used.specs.declared.StateFault.{StateFault}
-use Rattle.used.specs.declared.StateFault.TheVariants.{At, Nothing}
 use Rattle.used.proofs.Walk.{target_word}
 use Rattle.used.proofs.Beyond.{ground_fine}
 
@@ -78,11 +77,11 @@ module _ {states : ℕ} {pool accepting words first cs ms used₀ ss : List ℕ}
 
   -- ---- no state is beyond a limit, and nothing is prepared
 
-  pub settled_none : (prepare b : Bool) (from : ℕ) → b ≡ false → b ≡ (prepare || ltb from states) → FaultFrom states ms from → Settled prepare states pool accepting words cs cs ss ss Nothing
-  settled_none prepare b from low is f = record {
+  pub settled_none : (prepare : Bool) (from : ℕ) → prepare ≡ false → states ≤ from → FaultFrom states ms from → Settled prepare states pool accepting words cs cs ss ss (Ok tt)
+  settled_none prepare from low ge f = record {
     cs_long = refl;
     sums_long = refl;
-    fault = λ q k e. let z : ◌≡◌ {A = ℕ} 0 1 = cc in absurd (omega arith);
+    fault = λ r e. let z : ◌≡◌ {A = ℕ} 0 1 = cc in absurd (omega arith);
     fine = λ e a l. ground_clear count_limit T a (all a l);
     listed = λ e i l. let s = g.listed.placed i l in fine_exact (get_or accepting i 0) (all (get_or accepting i 0) s);
     left = λ e. whole (record {
@@ -90,14 +89,11 @@ module _ {states : ℕ} {pool accepting words first cs ms used₀ ss : List ℕ}
       summed = λ k l. row_exact k l (g.ordered.known k l);
       fine = all;
     });
-    prepared = λ y e. absurd (not_both prepare y parts.0);
+    prepared = λ y e. absurd (not_both prepare y low);
   }
     where
-      parts : (prepare ≡ false) × (ltb from states ≡ false)
-      parts = or_false prepare (ltb from states) (sym is ∙ low)
-
       all : (a : ℕ) → a < states → limit_ground count_limit T a ≡ 0
-      all a l = f.fine T refl measures a (omega arith) (omega (arith, ltb-false from states parts.1))
+      all a l = f.fine T refl measures a (omega arith) (omega arith)
 
       every : (a : ℕ) → held cs a ≡ count T a
       every a = go (dec_le states a)
@@ -131,16 +127,20 @@ module _ {states : ℕ} {pool accepting words first cs ms used₀ ss : List ℕ}
       sums_room = g.room.sums_room;
     }
 
-    module _ {r : StateFault} (f : FirstUsed states ms used r) where
+    module _ {r : Option (ℕ × Kind)} (f : FirstUsed states ms used r) where
       found : FaultFound states (state_ground count_limit T) r
       found = f.found T refl measures u.each
 
       -- one is beyond a limit
-      pub settled_fault : (q : ℕ) (k : Kind) → r ≡ At q k → Settled true states pool accepting words cs cs ss ss (At q k)
-      settled_fault q k e = record {
+      pub settled_fault : (q : ℕ) (k : Kind) → r ≡ Some (q, k) → (f' : Refusal) → refused_by f' ≡ refused (kind_number k) q → Settled true states pool accepting words cs cs ss ss (Err f')
+      settled_fault q k e f' i = record {
         cs_long = refl;
         sums_long = refl;
-        fault = λ q' k' h. found.fault q' k' (e ∙ h);
+        fault = λ f'' h.
+            let y : f'' ≡ f' = cc in
+            let n : kind_number f'.kind ≡ kind_number k = cc in
+            let p : f'.place ≡ q = cc in
+            rw (y, n, p) (found.fault q k e);
         fine = λ h. let z : ◌≡◌ {A = ℕ} 0 1 = cc in absurd (omega arith);
         listed = λ h. let z : ◌≡◌ {A = ℕ} 0 1 = cc in absurd (omega arith);
         left = λ h. let z : ◌≡◌ {A = ℕ} 0 1 = cc in absurd (omega arith);
@@ -148,7 +148,7 @@ module _ {states : ℕ} {pool accepting words first cs ms used₀ ss : List ℕ}
       }
 
       -- none is, and the unused ones are cleared
-      module _ (none : r ≡ Nothing) {cs' ss' : List ℕ} (c : Cleared states words used cs cs' ss ss') where
+      module _ (none : r ≡ None) {cs' ss' : List ℕ} (c : Cleared states words used cs cs' ss ss') where
         used_exact : (a : ℕ) → a < states → is_used T a ≡ true → (count T a ≤ count_limit) × (held cs a ≡ count T a)
         used_exact a l e =
             let z : limit_ground count_limit T a ≡ 0 = sym (ground_used count_limit T a e) ∙ found.fine none a l in
@@ -211,11 +211,11 @@ module _ {states : ℕ} {pool accepting words first cs ms used₀ ss : List ℕ}
             go false e (inl z) x y = sym z
             go false e (inr p) x y = absurd (not_both (is_used T (get_or accepting i 0)) (y p) e)
 
-        pub settled_clear : Settled true states pool accepting words cs cs' ss ss' Nothing
+        pub settled_clear : Settled true states pool accepting words cs cs' ss ss' (Ok tt)
         settled_clear = record {
           cs_long = c.cs_long;
           sums_long = c.sums_long;
-          fault = λ q k e. let z : ◌≡◌ {A = ℕ} 0 1 = cc in absurd (omega arith);
+          fault = λ r e. let z : ◌≡◌ {A = ℕ} 0 1 = cc in absurd (omega arith);
           fine = λ e. found.fine none;
           listed = λ e. listed;
           left = λ e. used_left (record { counted = counts; summed = sums });
@@ -223,13 +223,6 @@ module _ {states : ℕ} {pool accepting words first cs ms used₀ ss : List ℕ}
         }
 
 -- what is prepared is there also where it was not asked for
-pub settled_any : {states : ℕ} {pool accepting words cs₀ cs ss₀ ss : List ℕ} {r : StateFault} (prepare : Bool)
+pub settled_any : {states : ℕ} {pool accepting words cs₀ cs ss₀ ss : List ℕ} {r : Result (Unit {0}) Refusal} (prepare : Bool)
     → Settled true states pool accepting words cs₀ cs ss₀ ss r → Settled prepare states pool accepting words cs₀ cs ss₀ ss r
 settled_any prepare x = record { cs_long = x.cs_long; sums_long = x.sums_long; fault = x.fault; fine = x.fine; listed = x.listed; left = x.left; prepared = λ y e. x.prepared refl e }
-
--- when the used states are found
-pub find_prepared : (prepare : Bool) (states from : ℕ) → prepare ≡ true → true ≡ (prepare || ltb from states)
-find_prepared prepare states from e = rw e
-
-pub find_beyond : (prepare : Bool) (states from : ℕ) → prepare ≡ false → ltb from states ≡ (prepare || ltb from states)
-find_beyond prepare states from e = rw e

@@ -1,5 +1,5 @@
 -- The limits on counts and longest trees, of all states and of used ones. Assumes nothing: these are definitions.
-use Rattle.std.specs.Prelude.{ℕ, ◌<◌, ◌≤◌, min, ◌≡◌, List, length, ltb}
+use Rattle.std.specs.Prelude.{ℕ, ◌<◌, ◌≤◌, min, ◌≡◌, List, length, ltb, Option, Some, None}
 use Rattle.model.specs.declared.Kind.{Kind}
 use Rattle.model.specs.Answers.{kind_number}
 use Rattle.model.specs.Table.{Table}
@@ -10,8 +10,6 @@ use Rattle.chains.specs.First.{AllFine, FirstAt}
 use Rattle.counts.specs.Marks.{top, long_in, over_in}
 use Rattle.counts.specs.States.{held}
 use Rattle.used.specs.Marked.{is_set}
-use Rattle.used.specs.declared.StateFault.{StateFault}
-use Rattle.used.specs.declared.StateFault.TheVariants.{At, Nothing}
 
 -- the marks are those of the table's states
 pub record Measures (T : Table) (ms : List ℕ) : Type 0 where
@@ -30,10 +28,10 @@ pub record BeyondAt (T : Table) (from q number : ℕ) : Type 0 where
   pub here : limit_ground count_limit T q ≡ number
 
 -- of every table whose marks these are: the first such state, or there is none
-pub record BeyondFrom (states : ℕ) (ms : List ℕ) (from : ℕ) (r : StateFault) : Type 0 where
-  pub inside : (q : ℕ) (k : Kind) → r ≡ At q k → (from ≤ q) × (q < states)
-  pub at : (T : Table) → T.states ≡ states → Measures T ms → (q : ℕ) (k : Kind) → r ≡ At q k → BeyondAt T from q (kind_number k)
-  pub none : (T : Table) → T.states ≡ states → Measures T ms → r ≡ Nothing → FineFrom T from states
+pub record BeyondFrom (states : ℕ) (ms : List ℕ) (from : ℕ) (r : Option (ℕ × Kind)) : Type 0 where
+  pub inside : (q : ℕ) (k : Kind) → r ≡ Some (q, k) → (from ≤ q) × (q < states)
+  pub at : (T : Table) → T.states ≡ states → Measures T ms → (q : ℕ) (k : Kind) → r ≡ Some (q, k) → BeyondAt T from q (kind_number k)
+  pub none : (T : Table) → T.states ≡ states → Measures T ms → r ≡ None → FineFrom T from states
 
 -- no state before this one is beyond a limit
 pub record FaultFrom (states : ℕ) (ms : List ℕ) (from : ℕ) : Type 0 where
@@ -46,10 +44,10 @@ pub record FaultReady (states : ℕ) (ms used : List ℕ) (from : ℕ) : Type 0 
   pub before : FaultFrom states ms from
 
 -- the first faulty state of n, or there is none
-pub record FaultFound (n : ℕ) (ground_of : ℕ → ℕ) (r : StateFault) : Type 0 where
-  pub fault : (q : ℕ) (k : Kind) → r ≡ At q k → FirstAt n ground_of q (kind_number k)
-  pub fine : r ≡ Nothing → AllFine n ground_of
+pub record FaultFound (n : ℕ) (ground_of : ℕ → ℕ) (r : Option (ℕ × Kind)) : Type 0 where
+  pub fault : (q : ℕ) (k : Kind) → r ≡ Some (q, k) → FirstAt n ground_of q (kind_number k)
+  pub fine : r ≡ None → AllFine n ground_of
 
 -- of every table whose marks and used states these are: the first used state that is beyond a limit, or there is none
-pub record FirstUsed (states : ℕ) (ms used : List ℕ) (r : StateFault) : Type 0 where
+pub record FirstUsed (states : ℕ) (ms used : List ℕ) (r : Option (ℕ × Kind)) : Type 0 where
   pub found : (T : Table) → T.states ≡ states → Measures T ms → ((q : ℕ) → is_set used q ≡ is_used T q) → FaultFound states (state_ground count_limit T) r

@@ -1,6 +1,6 @@
 -- Counts and sums of unused states set to 0, and used states held to the limits. Assumes nothing: these are definitions.
-use Rattle.std.specs.Prelude.{ℕ, ◌<◌, ◌≤◌, ◌≡◌, Bool, true, List, length, get_or, if◌then◌else◌}
-use Rattle.model.specs.declared.Kind.{Kind}
+use Rattle.std.specs.Prelude.{ℕ, ◌<◌, ◌≤◌, ◌≡◌, Bool, true, List, length, get_or, if◌then◌else◌, Result, Ok, Err}
+use Rattle.model.specs.declared.Refusal.{Refusal}
 use Rattle.model.specs.Answers.{kind_number}
 use Rattle.model.specs.Count.{count}
 use Rattle.model.specs.Check.{count_limit, state_ground}
@@ -10,8 +10,6 @@ use Rattle.counts.specs.Chain.{InOrder, Chained}
 use Rattle.counts.specs.States.{held, CountsKnown}
 use Rattle.counts.specs.Prepared.{UsedCounts, Left}
 use Rattle.used.specs.Marked.{is_set, Placed}
-use Rattle.used.specs.declared.StateFault.{StateFault}
-use Rattle.used.specs.declared.StateFault.TheVariants.{At, Nothing}
 
 -- the target of the row of word k
 abbrev pub target_at : List ℕ → ℕ → ℕ
@@ -68,12 +66,12 @@ pub record SettleReady (states : ℕ) (pool accepting words first cs ms used sum
 
 -- the first used state beyond a limit; or there is none: then listed states have their counts, and what is left are the counts of used states, or of
 -- all states, where it is not to prepare for numbering and no state is beyond a limit
-pub record Settled (prepare : Bool) (states : ℕ) (pool accepting words cs₀ cs sums₀ sums : List ℕ) (r : StateFault) : Type 0 where
+pub record Settled (prepare : Bool) (states : ℕ) (pool accepting words cs₀ cs sums₀ sums : List ℕ) (r : Result (Unit {0}) Refusal) : Type 0 where
   pub cs_long : length cs ≡ length cs₀
   pub sums_long : length sums ≡ length sums₀
-  pub fault : (q : ℕ) (k : Kind) → r ≡ At q k → FirstAt states (state_ground count_limit (held_table states pool words accepting)) q (kind_number k)
-  pub fine : r ≡ Nothing → AllFine states (state_ground count_limit (held_table states pool words accepting))
-  pub listed : r ≡ Nothing → (i : ℕ) → i < length accepting
+  pub fault : (f : Refusal) → r ≡ Err f → FirstAt states (state_ground count_limit (held_table states pool words accepting)) f.place (kind_number f.kind)
+  pub fine : r ≡ Ok tt → AllFine states (state_ground count_limit (held_table states pool words accepting))
+  pub listed : r ≡ Ok tt → (i : ℕ) → i < length accepting
       → held cs (get_or accepting i 0) ≡ count (held_table states pool words accepting) (get_or accepting i 0)
-  pub left : r ≡ Nothing → Left (held_table states pool words accepting) cs sums
-  pub prepared : prepare ≡ true → r ≡ Nothing → UsedCounts (held_table states pool words accepting) cs sums
+  pub left : r ≡ Ok tt → Left (held_table states pool words accepting) cs sums
+  pub prepared : prepare ≡ true → r ≡ Ok tt → UsedCounts (held_table states pool words accepting) cs sums

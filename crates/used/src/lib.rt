@@ -1,7 +1,7 @@
 // Which states are used, and the limits that used states are held to.
 #![tactic(auto)]
 
-ghost use Rattle.std.specs.Prelude.{◌≡◌, ◌≤◌, true, ◌||◌, map, length, ltb};
+ghost use Rattle.std.specs.Prelude.{◌≡◌, ◌≤◌, true, map, length, ltb};
 ghost use Rattle.model.specs.Count.{product};
 ghost use Rattle.model.specs.Reach.{is_among};
 ghost use Rattle.rows.specs.Words.{rows_in};
@@ -10,30 +10,21 @@ ghost use Rattle.used.specs.Marked.{Placed, NoneEmpty, ArgsSome, MarkedToo, RowP
 ghost use Rattle.used.specs.Limits.{BeyondFrom, FaultFrom, FaultReady, FirstUsed};
 ghost use Rattle.used.specs.Settled.{RowsChained, RowsCleared, ClearReady, Cleared, SettleReady, Settled};
 
-use chains::wide;
-use model::Kind;
+use model::{Kind, Refusal, refuse};
 
 // The most entries that a state's longest tree may have.
 const LENGTH_LIMIT: u64 = 4096;
 
-// The first faulty state, or nothing.
-#[derive(Clone, Copy)]
-pub enum StateFault {
-    At(usize, Kind),
-    Nothing,
-}
-
 // Whether a row with these arguments counts more than 0.
+#[tactic(auto, using(crate::proofs::Marks::pos_goes, crate::proofs::Marks::pos_none, crate::proofs::Marks::pos_ends))]
 fn has_trees(args: &[u16], counts: &[u64]) -> bool
     requires { Placed (length counts.now) args.now }
     ensures { result ≡ ltb 0 (product (map (held counts.now) args.now)) }
 {
-    let mut i: usize = 0;
-    while i < args.len() {
-        if counts[wide(args[i])] == 0 {
+    for a in args {
+        if counts[usize::from(*a)] == 0 {
             return false;
         }
-        i += 1;
     }
     true
 }
@@ -43,14 +34,7 @@ fn none_empty(states: usize, counts: &[u64]) -> bool
     requires { states ≤ length counts.now }
     ensures { NoneEmpty result states counts.now }
 {
-    let mut q: usize = 0;
-    while q < states {
-        if counts[q] == 0 {
-            return false;
-        }
-        q += 1;
-    }
-    true
+    counts[..states].iter().all(|c| *c != 0)
 }
 
 // Whether a row with these arguments counts more than 0; where no state is empty it does.
@@ -58,10 +42,7 @@ fn row_counts(full: bool, args: &[u16], counts: &[u64]) -> bool
     requires { Placed (length counts.now) args.now × ArgsSome full counts.now args.now }
     ensures { result ≡ ltb 0 (product (map (held counts.now) args.now)) }
 {
-    if full {
-        return true;
-    }
-    has_trees(args, counts)
+    full || has_trees(args, counts)
 }
 
 // Marks the states of a list.
@@ -69,10 +50,8 @@ fn mark_args(args: &[u16], used: &mut [u8])
     requires { Placed (length used.old) args.now }
     ensures { MarkedToo (λ q. is_among q args.now) used.old used.new }
 {
-    let mut i: usize = 0;
-    while i < args.len() {
-        used[wide(args[i])] = 1;
-        i += 1;
+    for a in args {
+        used[usize::from(*a)] = 1;
     }
 }
 
@@ -87,18 +66,15 @@ fn mark_row(full: bool, args: &[u16], counts: &[u64], used: &mut [u8])
 }
 
 // Marks the listed states that have trees.
+#[tactic(auto, using(crate::proofs::Marks::listed_begin, crate::proofs::Marks::listed_skip, crate::proofs::Marks::listed_go, crate::proofs::Marks::listed_end))]
 fn mark_listed(accepting: &[u16], counts: &[u64], used: &mut [u8])
     requires { RowPlaced accepting.now counts.now used.old }
     ensures { MarkedToo (listed_by accepting.now counts.now) used.old used.new }
 {
-    let mut i: usize = 0;
-    while i < accepting.len() {
-        let a = wide(accepting[i]);
-        if counts[a] == 0 {
-            i += 1;
-        } else {
-            used[a] = 1;
-            i += 1;
+    for a in accepting {
+        let q = usize::from(*a);
+        if counts[q] != 0 {
+            used[q] = 1;
         }
     }
 }
@@ -108,18 +84,12 @@ fn pass_marked(counts: &[u64], used: &[u8], low: usize, m: usize) -> usize
     requires { PassedBy counts.now used.now low m }
     ensures { AllMarked counts.now used.now result × (result ≤ m) }
 {
-    let mut n = low;
-    while n < m {
-        if counts[n] == 0 {
-            n += 1;
-        } else {
-            if used[n] == 0 {
-                return n;
-            }
-            n += 1;
+    for n in low..m {
+        if counts[n] != 0 && used[n] == 0 {
+            return n;
         }
     }
-    n
+    m
 }
 
 // Marks the arguments of the rows of state q that count more than 0, up to the row after which every state below q that has trees is
@@ -138,7 +108,7 @@ fn mark_rows(
     ensures { Turned (rows_in pool.now words.now) counts.now q used.old used.new result }
 {
     let mut n = low;
-    let mut p = wide(first[q]);
+    let mut p = usize::from(first[q]);
     while 0 < p {
         if q <= n {
             return n;
@@ -146,7 +116,7 @@ fn mark_rows(
         let word = words[p - 1];
         let args = rows::args_in(pool, word);
         mark_row(full, args, counts, used);
-        n = pass_marked(counts, &*used, n, q);
+        n = pass_marked(counts, used, n, q);
         p = rows::after_in(word);
     }
     n
@@ -168,10 +138,11 @@ pub fn find_used(
 {
     let full = none_empty(states, counts);
     mark_listed(accepting, counts, used);
-    let mut m = states;
-    let mut n = pass_marked(counts, &*used, 0, states);
-    while n < m {
-        m -= 1;
+    let mut n = pass_marked(counts, used, 0, states);
+    for m in (0..states).rev() {
+        if m < n {
+            break;
+        }
         if used[m] != 0 {
             n = mark_rows(full, pool, words, first, counts, used, n, m);
         }
@@ -180,54 +151,43 @@ pub fn find_used(
 
 // The first state from `from` on whose count is above the limit, or else whose longest tree is. The limit is the largest number of 64 bits: a
 // count above it has a mark.
-pub fn first_beyond(states: usize, marks: &[u64], from: usize) -> StateFault
+pub fn first_beyond(states: usize, marks: &[u64], from: usize) -> Option<(usize, Kind)>
     requires { states ≤ length marks.now }
     ensures { BeyondFrom states marks.now from result }
 {
-    let mut q = from;
-    while q < states {
+    for q in from..states {
         if counts::over_in(marks[q]) {
-            return StateFault::At(q, Kind::CountAboveLimit);
+            return Some((q, Kind::CountAboveLimit));
         }
         if LENGTH_LIMIT < counts::long_in(marks[q]) {
-            return StateFault::At(q, Kind::LongestTreeAboveLimit);
+            return Some((q, Kind::LongestTreeAboveLimit));
         }
-        q += 1;
     }
-    StateFault::Nothing
+    None
 }
 
 // The number of the first state beyond a limit, or `states`.
+#[tactic(auto, using(crate::proofs::Beyond::place_of))]
 fn first_place(states: usize, marks: &[u64]) -> usize
     requires { states ≤ length marks.now }
     ensures { FaultFrom states marks.now result }
 {
-    match first_beyond(states, marks, 0) {
-        StateFault::At(q, kind) => q,
-        StateFault::Nothing => states,
-    }
+    first_beyond(states, marks, 0).map_or(states, |(q, _)| q)
 }
 
 // The first used state from `from` on that is beyond a limit, where no state before that is.
-pub fn first_fault(states: usize, marks: &[u64], used: &[u8], from: usize) -> StateFault
+pub fn first_fault(states: usize, marks: &[u64], used: &[u8], from: usize) -> Option<(usize, Kind)>
     requires { FaultReady states marks.now used.now from }
     ensures { FirstUsed states marks.now used.now result }
 {
     let mut q = from;
-    while q < states {
-        match first_beyond(states, marks, q) {
-            StateFault::At(a, kind) => {
-                if used[a] != 0 {
-                    return StateFault::At(a, kind);
-                }
-                q = a + 1;
-            }
-            StateFault::Nothing => {
-                return StateFault::Nothing;
-            }
+    while let Some((a, kind)) = first_beyond(states, marks, q) {
+        if used[a] != 0 {
+            return Some((a, kind));
         }
+        q = a + 1;
     }
-    StateFault::Nothing
+    None
 }
 
 // Sets the sums of the rows of state q to 0.
@@ -235,7 +195,7 @@ fn clear_rows(words: &[u64], first: &[u16], sums: &mut [u64], q: usize)
     requires { RowsChained words.now first.now sums.old q }
     ensures { RowsCleared words.now q sums.old sums.new }
 {
-    let mut p = wide(first[q]);
+    let mut p = usize::from(first[q]);
     while 0 < p {
         sums[p - 1] = 0;
         p = rows::after_in(words[p - 1]);
@@ -254,26 +214,12 @@ pub fn clear_unused(
     requires { ClearReady states words.now first.now used.now counts.old sums.old }
     ensures { Cleared states words.now used.now counts.old counts.new sums.old sums.new }
 {
-    let mut q: usize = 0;
-    while q < states {
+    for q in 0..states {
         if used[q] == 0 {
             counts[q] = 0;
             clear_rows(words, first, sums, q);
-            q += 1;
-        } else {
-            q += 1;
         }
     }
-}
-
-// Whether used states must be found: something is prepared, or a state is beyond a limit.
-fn must_find(prepare: bool, states: usize, from: usize) -> bool
-    ensures { result ≡ (prepare || ltb from states) }
-{
-    if prepare {
-        return true;
-    }
-    from < states
 }
 
 // Finds the used states, and the first of them that is beyond a limit, where no state before `from` is. Where there is none the counts of
@@ -289,20 +235,18 @@ fn settle_used(
     used: &mut [u8],
     sums: &mut [u64],
     from: usize,
-) -> StateFault
+) -> Result<(), Refusal>
     requires { SettleReady states pool.now accepting.now words.now first.now counts.old marks.now used.old sums.old
         × FaultFrom states marks.now from }
     ensures { Settled true states pool.now accepting.now words.now counts.old
         counts.new sums.old sums.new result }
 {
-    find_used(states, pool, accepting, words, first, &*counts, used);
-    match first_fault(states, marks, &*used, from) {
-        StateFault::At(q, kind) => StateFault::At(q, kind),
-        StateFault::Nothing => {
-            clear_unused(states, words, first, &*used, counts, sums);
-            StateFault::Nothing
-        }
+    find_used(states, pool, accepting, words, first, counts, used);
+    if let Some((q, kind)) = first_fault(states, marks, used, from) {
+        return Err(refuse(kind, q as u64));
     }
+    clear_unused(states, words, first, used, counts, sums);
+    Ok(())
 }
 
 // Holds the used states to the limits. Where none is beyond them the counts of unused states, and the sums of their rows, become 0; this
@@ -318,16 +262,16 @@ pub fn settle(
     marks: &[u64],
     used: &mut [u8],
     sums: &mut [u64],
-) -> StateFault
+) -> Result<(), Refusal>
     requires { SettleReady states pool.now accepting.now words.now first.now counts.old marks.now used.old sums.old }
     ensures { Settled prepare states pool.now accepting.now words.now counts.old
         counts.new sums.old sums.new result }
 {
     let from = first_place(states, marks);
-    if must_find(prepare, states, from) {
-        return settle_used(
+    if prepare || from < states {
+        settle_used(
             states, pool, accepting, words, first, counts, marks, used, sums, from,
-        );
+        )?;
     }
-    StateFault::Nothing
+    Ok(())
 }

@@ -2,21 +2,20 @@
 use Prim.Native.Nat.{ℕ, zero, suc, ◌+◌, ◌-◌, ◌*◌, ◌/◌, ◌%◌, ◌^◌, ◌<◌, ◌≤◌}
 use mathlib.Core.Path.{◌≡◌, refl, sym, ap, ◌∙◌}
 use mathlib.Core.Bool.{Bool, true, false}
-use mathlib.Core.List.{List, [], ◌∷◌}
+use mathlib.Core.List.{List, [], ◌∷◌, ◌++◌}
 use native.Mathlib.Nat.{div-div-eq-div-mul, div-one, pow-succ'}
 use native.Mathlib.Omega.{arith}
 use lib.Arith.{digits_div, digits_mod}
 use lib.Dec.{ltb}
-use lib.Pow.{pow-add}
-use lib.ListN.{length, get_or, set, take, drop, length-set, length-drop}
+use lib.ListN.{length, get_or, set, take, drop, length-set, length-drop, length-append}
 use lib.Seq.{length-take-le, get_or-take, get_or-drop, get_or-set_same, get_or-set_other}
 use borrow.Author.Tests.{ltb-true, ltb-false}
-use Rattle.words.specs.Words.{byte_at, packed, Word, Placed, WordPut}
+use borrow.Rule.Slice.PartMut.{put_mid}
+use Rattle.std.proofs.lemmas.List.{get_or-append_right, get_or_append_left}
+use Rattle.std.specs.Int as Int
+use Rattle.std.specs.Int.{w64, bytes_low_first, to_le_bytes}
+use Rattle.words.specs.Words.{byte_at, packed, Word, Placed}
 use Rattle.words.proofs.Reading.{Bytes, others, taken, dropped}
-
--- nothing is put
-pub placed_none : (l : List ℕ) (at : ℕ) (f : ℕ → ℕ) → Placed 0 l l at f
-placed_none l at f = record { long = refl; inside = λ k h. absurd (omega arith); before = λ i h. refl; behind = λ i h. refl }
 
 -- one entry
 pub placed_one : (l : List ℕ) (at x : ℕ) (f : ℕ → ℕ) → at < length l → x ≡ f 0 → Placed 1 l (set l at x) at f
@@ -53,24 +52,40 @@ placed_join {m} {old} {mid} {new} {at} {f} s n l h p q = record {
         let y : at + s + (k - s) ≡ at + k = omega arith in
         sym (ap (λ (i : ℕ). get_or new i 0) y) ∙ q.inside (k - s) (omega arith) ∙ ap f z
 
+-- entries in the place of others, the part `at` to `at + n` as `copy_from_slice` leaves it
+pub placed_part : (n at : ℕ) (old ys : List ℕ) (f : ℕ → ℕ) → at + n ≤ length old → length ys ≡ n → ((k : ℕ) → k < n → get_or ys k 0 ≡ f k)
+    → Placed n old (put_mid at (at + n - at) old ys) at f
+placed_part n at old ys f h e g =
+    let z : at + n - at ≡ n = omega arith in
+    let l : length (take at old) ≡ at = length-take-le at old (omega arith) in
+    let rest : List ℕ = drop n (drop at old) in
+    rw z record {
+      long = omega (arith, length-append (take at old) (ys ++ rest), length-append ys rest, length-drop n (drop at old), length-drop at old);
+      inside = λ k b.
+          let y : at + k - at ≡ k = omega arith in
+          get_or-append_right (take at old) (ys ++ rest) at (at + k) 0 l (omega arith) ∙ ap (λ (i : ℕ). get_or (ys ++ rest) i 0) y
+          ∙ get_or_append_left ys rest 0 k (omega arith) ∙ g k b;
+      before = λ i b. get_or_append_left (take at old) (ys ++ rest) 0 i (omega arith) ∙ get_or-take at old i 0 b;
+      behind = λ i b.
+          let y : at + (n + (i - at - n)) ≡ i = omega arith in
+          get_or-append_right (take at old) (ys ++ rest) at i 0 l (omega arith) ∙ get_or-append_right ys rest n (i - at) 0 e (omega arith)
+          ∙ get_or-drop n (drop at old) (i - at - n) 0 ∙ get_or-drop at old (n + (i - at - n)) 0 ∙ ap (λ (j : ℕ). get_or old j 0) y;
+    }
+
 -- ---- the bytes of a number
 
--- without its lowest m bytes
-pub byte_behind : (w m k : ℕ) → byte_at (w / 256 ^ m) k ≡ byte_at w (m + k)
-byte_behind w m k = ap (λ (n : ℕ). n % 256) (div-div-eq-div-mul w (256 ^ m) (256 ^ k) ∙ ap (λ (n : ℕ). w / n) (sym (pow-add 256 m k)))
+std_byte : (i w : ℕ) → Int.byte_at i w ≡ byte_at w i
+std_byte zero w = ap (λ (n : ℕ). n % 256) (sym (div-one w))
+std_byte (suc i) w = refl
 
--- the low part, then the rest
-pub bytes_join : (m n w : ℕ) {old mid new : List ℕ} {at : ℕ} → WordPut m old mid at w → WordPut n mid new (at + m) (w / 256 ^ m)
-    → WordPut (m + n) old new at w
-bytes_join m n w p q = placed_join m n (omega arith) (omega arith) p (placed_as q (λ k. byte_at w (m + k)) (λ k h. byte_behind w m k))
+low_byte : (i n w k : ℕ) → k < n → get_or (bytes_low_first i n w) k 0 ≡ byte_at w (i + k)
+low_byte i zero w k h = absurd (omega arith)
+low_byte i (suc n) w zero h = let e : i ≡ i + 0 = omega arith in std_byte i w ∙ ap (byte_at w) e
+low_byte i (suc n) w (suc k) h = let e : suc i + k ≡ i + suc k = omega arith in low_byte (suc i) n w k (omega arith) ∙ ap (byte_at w) e
 
-pub bytes_two : (l : List ℕ) (at w : ℕ) → at + 2 ≤ length l → WordPut 2 l (set (set l at (w % 256)) (at + 1) (w / 256 % 256)) at w
-bytes_two l at w h =
-    bytes_join 1 1 w (placed_one l at (w % 256) (byte_at w) (omega arith) (lowest w))
-    (placed_one (set l at (w % 256)) (at + 1) (w / 256 % 256) (byte_at (w / 256 ^ 1)) (omega (arith, length-set l at (w % 256))) (lowest (w / 256)))
-  where
-    lowest : (x : ℕ) → x % 256 ≡ byte_at x 0
-    lowest x = ap (λ (n : ℕ). n % 256) (sym (div-one x))
+-- the first of the eight bytes of a number, as `to_le_bytes` gives them
+pub first_bytes : (n w k : ℕ) → n ≤ 8 → k < n → get_or (take n (to_le_bytes w64 w)) k 0 ≡ byte_at w k
+first_bytes n w k h l = get_or-take n (to_le_bytes w64 w) k 0 l ∙ low_byte 0 8 w k (omega arith) ∙ (let e : 0 + k ≡ k = omega arith in ap (byte_at w) e)
 
 packed_byte : (xs : List ℕ) → Bytes xs → (k : ℕ) → k < length xs → byte_at (packed xs) k ≡ get_or xs k 0
 unfolding packed

@@ -29,7 +29,7 @@ pub fn inner_ahead(x: u64) -> usize
     let low = x & 0x7f7f_7f7f_7f7f_7f7f;
     let outer = (!(low + 0x5353_5353_5353_5353) | (low + 0x0505_0505_0505_0505) | x)
         & 0x8080_8080_8080_8080;
-    (u64::trailing_zeros(outer) / 8) as usize
+    (outer.trailing_zeros() / 8) as usize
 }
 
 // 128 in the place of each byte that may not stand in a names list, and 0 in the others.
@@ -46,32 +46,15 @@ pub fn foreign_bytes(x: u64) -> u64
     (!(letter | digit | hyphen | underscore | ten) | x) & 0x8080_8080_8080_8080
 }
 
-fn wide(x: u8) -> u64
-    ensures { (result ≡ x) × (result < 256) }
+// N bytes as one number, the first byte the lowest: one load (bench/README.md says how that was seen).
+pub fn word_at<const N: usize>(bytes: &[u8], at: usize) -> u64
+    requires at_in_bounds { at + N ≤ length bytes.now }
+    requires n_le_8 { N ≤ 8 }
+    ensures { Word N at bytes.now result }
 {
-    x as u64
-}
-
-fn two_at(bytes: &[u8], at: usize) -> u64
-    requires { at + 2 ≤ length bytes.now }
-    ensures { Word 2 at bytes.now result }
-{
-    wide(bytes[at]) + wide(bytes[at + 1]) * 0x100
-}
-
-pub fn four_at(bytes: &[u8], at: usize) -> u64
-    requires { at + 4 ≤ length bytes.now }
-    ensures { Word 4 at bytes.now result }
-{
-    two_at(bytes, at) + two_at(bytes, at + 2) * 0x1_0000
-}
-
-// Eight bytes as one number, the first byte the lowest: one load (bench/README.md says how that was seen).
-pub fn word_at(bytes: &[u8], at: usize) -> u64
-    requires { at + 8 ≤ length bytes.now }
-    ensures { Word 8 at bytes.now result }
-{
-    four_at(bytes, at) + four_at(bytes, at + 4) * 0x1_0000_0000
+    let mut word = [0u8; 8];
+    word[..N].copy_from_slice(&bytes[at..at + N]);
+    u64::from_le_bytes(word)
 }
 
 // What is left of the bytes, fewer than eight, as one number.
@@ -79,11 +62,9 @@ fn rest_at(bytes: &[u8], at: usize) -> u64
     requires { (at ≤ length bytes.now) × (length bytes.now < at + 8) }
     ensures { Word 8 at bytes.now result }
 {
-    let mut w: u64 = 0;
-    let mut i = bytes.len();
-    while at < i {
-        i -= 1;
-        w = w * 256 + wide(bytes[i]);
+    let mut w = 0;
+    for b in bytes[at..].iter().rev() {
+        w = w * 256 + u64::from(*b);
     }
     w
 }
@@ -94,32 +75,17 @@ pub fn word_or_rest(bytes: &[u8], at: usize) -> u64
     ensures { Word 8 at bytes.now result }
 {
     if 8 <= bytes.len() - at {
-        return word_at(bytes, at);
+        word_at::<8>(bytes, at)
+    } else {
+        rest_at(bytes, at)
     }
-    rest_at(bytes, at)
 }
 
-fn put_two(text: &mut [u8], at: usize, w: u64)
-    requires { at + 2 ≤ length text.old }
-    ensures { WordPut 2 text.old text.new at w }
+// Puts the N low bytes of a number, the lowest first: one store.
+pub fn put_word<const N: usize>(text: &mut [u8], at: usize, w: u64)
+    requires at_in_bounds { at + N ≤ length text.old }
+    requires n_le_8 { N ≤ 8 }
+    ensures { WordPut N text.old text.new at w }
 {
-    text[at] = (w % 0x100) as u8;
-    text[at + 1] = (w / 0x100 % 0x100) as u8;
-}
-
-pub fn put_four(text: &mut [u8], at: usize, w: u64)
-    requires { at + 4 ≤ length text.old }
-    ensures { WordPut 4 text.old text.new at w }
-{
-    put_two(&mut *text, at, w);
-    put_two(text, at + 2, w / 0x1_0000);
-}
-
-// Puts the eight bytes of a number, the lowest first: one store.
-pub fn put_word(text: &mut [u8], at: usize, w: u64)
-    requires { at + 8 ≤ length text.old }
-    ensures { WordPut 8 text.old text.new at w }
-{
-    put_four(&mut *text, at, w);
-    put_four(text, at + 4, w / 0x1_0000_0000);
+    text[at..at + N].copy_from_slice(&w.to_le_bytes()[..N]);
 }

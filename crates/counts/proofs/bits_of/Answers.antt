@@ -12,4 +12,4 @@ length-holds c p h =
     (subst (λ (n : ℕ). c ≤ 2 ^ n) (sym e) (omega (arith, s.2)), omega arith)
 
 pub returns : goal.returns
-returns c = length-holds c.args.c c.requires c.ranges.c.fits
+returns c = rw c.from.ensures (length-holds c.args.c c.requires c.ranges.c.fits)

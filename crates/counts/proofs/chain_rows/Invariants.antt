@@ -4,6 +4,3 @@ use Rattle.counts.proofs.chain_rows.Given as goal
 
 abbrev pub invariant-loop-m : goal.invariant-loop-m
 invariant-loop-m l = Chaining l.pool l.initial.words l.initial.first l.words l.first l.m
-
-abbrev pub decreases-loop-m : goal.decreases-loop-m
-decreases-loop-m l = l.m

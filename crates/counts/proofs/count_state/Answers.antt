@@ -4,21 +4,22 @@ use Rattle.counts.proofs.States.{marked_here, link_further, state_goes, state_be
 use Rattle.counts.proofs.count_state.Goals as goal
 
 pub loop-p-init : goal.loop-p-init
-loop-p-init c = state_begins c.requires _ c.wide-p.ensures
+loop-p-init c = state_begins c.requires _ c.from-p.ensures
 
 pub row_sum-s-requires : goal.row_sum-s-requires
 row_sum-s-requires c = marks_placed (marked_here c.requires c.loop-p.invariant c.loop-p-test.true _ c.args_in-args.ensures)
 
-pub row_weight-w-requires : goal.row_weight-w-requires
-row_weight-w-requires c = weighable (marked_here c.requires c.loop-p.invariant c.loop-p-test.true _ c.args_in-args.ensures) c.row_sum-s.ensures
+pub row_weight-requires : goal.row_weight-requires
+row_weight-requires c = weighable (marked_here c.requires c.loop-p.invariant c.loop-p-test.true _ c.args_in-args.ensures) c.row_sum-s.ensures
 
 pub loop-p-smaller : goal.loop-p-smaller
 loop-p-smaller c = link_further c.requires c.loop-p.invariant c.loop-p-test.true _ c.after_in-p.ensures
 
 pub loop-p-preserved : goal.loop-p-preserved
 loop-p-preserved c =
-    state_goes c.requires c.loop-p.invariant c.loop-p-test.true
-    _ c.args_in-args.ensures _ _ _ c.row_sum-s.ensures c.row_weight-w.ensures c.plus-k.ensures c.longer_of-long.ensures c.after_in-p.ensures
+    rw c.unwrap_or.ensures
+    (state_goes c.requires c.loop-p.invariant c.loop-p-test.true
+    _ c.args_in-args.ensures _ _ _ c.row_weight.result c.plus-count.result c.row_sum-s.ensures c.row_weight.ensures c.plus-count.ensures c.longer_of-long.ensures c.after_in-p.ensures)
 
 pub returns : goal.returns
-returns c = state_ends _ _ _ _ _ c.loop-p.invariant c.loop-p-test.false c.kept_length.ensures
+returns c = state_ends _ _ _ _ _ c.loop-p.invariant c.loop-p-test.false c.min.ensures

@@ -6,7 +6,7 @@ pub count_state-s-requires : goal.count_state-s-requires
 count_state-s-requires c = countable c.requires c.loop-q.invariant c.loop-q-test.true
 
 pub loop-q-preserved : goal.loop-q-preserved
-loop-q-preserved c = counting_goes c.requires c.loop-q.invariant c.loop-q-test.true c.count_state-s.ensures _ c.mark_of-m.ensures
+loop-q-preserved c = rw c.unwrap_or.ensures (counting_goes c.requires c.loop-q.invariant c.loop-q-test.true c.count_state-s.ensures _ c.mark_of.ensures)
 
 pub returns : goal.returns
 returns c = counting_ends c.requires c.loop-q.invariant c.loop-q-test.false

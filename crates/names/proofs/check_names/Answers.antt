@@ -7,10 +7,10 @@ use Rattle.names.proofs.Lines.{too_many_lem, no_name, fits, stretch_part, part_i
 use Rattle.names.proofs.check_names.Goals as goal
 
 pub returns-then-n-ge255 : goal.returns-then-n-ge255
-returns-then-n-ge255 c = faulty_line _ (too_many_lem c.loop-at.invariant c.loop-at-test.true c.if-n-ge255.true)
+returns-then-n-ge255 c = faulty_line _ c.refuse.ensures (too_many_lem c.loop-at.invariant c.loop-at-test.true c.if-n-ge255.true)
 
 pub returns-in_default : goal.returns-in_default
-returns-in_default c = faulty_line _ (no_name c.loop-at.invariant c.loop-at-test.true (sym c.name_end.ensures ∙ c.in_default.is))
+returns-in_default c = faulty_line _ c.refuse-in_default.ensures (no_name c.loop-at.invariant c.loop-at-test.true (sym c.name_end.ensures ∙ c.in_default.is))
 
 pub slice_bounds-find_name-count : goal.slice_bounds-find_name-count
 slice_bounds-find_name-count c = omega (arith, (fits c.loop-at.invariant c.loop-at-test.true _ (sym c.name_end.ensures ∙ c.in-Some.is)).1)
@@ -29,7 +29,7 @@ find_name-requires c =
 
 pub returns-in-Some-find_name : goal.returns-in-Some-find_name
 returns-in-Some-find_name c =
-    faulty_line _ (again c.loop-at.invariant c.loop-at-test.true _ (sym c.name_end.ensures ∙ c.in-Some.is) _ (sym c.find_name.ensures ∙ c.in-Some-find_name.is))
+    faulty_line _ c.refuse-in-Some-find_name.ensures (again c.loop-at.invariant c.loop-at-test.true _ (sym c.name_end.ensures ∙ c.in-Some.is) _ (sym c.find_name.ensures ∙ c.in-Some-find_name.is))
 
 pub overflow_cast-starts : goal.overflow_cast-starts
 overflow_cast-starts c = omega (arith, short_end c.loop-at.invariant c.loop-at-test.true _ (sym c.name_end.ensures ∙ c.in-Some.is), c.if-n-ge255.false)
@@ -44,7 +44,7 @@ loop-at-preserved c =
     entered c.loop-at.invariant c.loop-at-test.true _ (sym c.name_end.ensures ∙ c.in-Some.is) c.if-n-ge255.false _ hashed c.stretch_at-stretch.ensures.below (sym c.find_name.ensures ∙ c.in_default-find_name.is)
 
 pub returns-then-n-eq0 : goal.returns-then-n-eq0
-returns-then-n-eq0 c = faulty_line _ (no_lines_at_all c.loop-at.invariant c.loop-at-test.false c.if-n-eq0.true)
+returns-then-n-eq0 c = faulty_line _ c.refuse-then-n-eq0.ensures (no_lines_at_all c.loop-at.invariant c.loop-at-test.false c.if-n-eq0.true)
 
 pub returns : goal.returns
 returns c = sound_list c.loop-at.invariant c.loop-at-test.false c.if-n-eq0.false

@@ -9,7 +9,7 @@ use Rattle.names.proofs.Lines.{name_bucket, no_earlier}
 use Rattle.names.proofs.find_name.Goals as goal
 
 pub loop-p-init : goal.loop-p-init
-loop-p-init c = λ x. rw c.wide-p.ensures (walk_begins _ _ _ (name_bucket x.seed c.args.names.now _ _ x.hashed) x.indexed.chains x.below)
+loop-p-init c = λ x. rw c.from-p.ensures (walk_begins _ _ _ (name_bucket x.seed c.args.names.now _ _ x.hashed) x.indexed.chains x.below)
 
 pub same_name-requires : goal.same_name-requires
 same_name-requires c = let x = c.requires.sought in
@@ -24,7 +24,7 @@ returns-then-same_name c =
 pub loop-p-preserved : goal.loop-p-preserved
 loop-p-preserved c =
     λ x. let told = sym (c.same_name.ensures ∙ ap (λ (x : List ℕ). same_name x c.args.name.now) c.name_at.ensures) ∙ c.if-same_name.false in
-    rw c.wide-p-in-loop-p.ensures (walk_goes _ _ _ (name_bucket x.seed c.args.names.now _ _ x.hashed) x.indexed.chains c.loop-p.p (c.loop-p.invariant x) c.loop-p-test.true told)
+    rw c.from-p-in-loop-p.ensures (walk_goes _ _ _ (name_bucket x.seed c.args.names.now _ _ x.hashed) x.indexed.chains c.loop-p.p (c.loop-p.invariant x) c.loop-p-test.true told)
 
 pub returns : goal.returns
 returns c = walk_ends _ _ _ c.loop-p.p (c.loop-p.invariant c.requires.sought) c.loop-p-test.false

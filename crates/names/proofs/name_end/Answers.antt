@@ -24,6 +24,6 @@ returns-then-is_letter c =
     end_name c.args.names.now c.args.at _ c.requires.end_value.0 (search rules) c.if-names-end-ne10.false c.if-end-at-gt24.false
     (sym c.named.ensures ∙ c.if-not-named.false) (sym c.is_letter.ensures ∙ c.if-is_letter.true)
 
-pub returns : goal.returns
-returns c =
+pub returns-else-is_letter : goal.returns-else-is_letter
+returns-else-is_letter c =
     end_no_letter c.args.names.now c.args.at _ c.requires.end_value.0 (search rules) c.if-names-end-ne10.false (sym c.is_letter.ensures ∙ c.if-is_letter.false)

@@ -1,70 +1,71 @@
 use native.Mathlib.Omega.{arith}
+use Rattle.std.specs.Prelude.{Ok}
 use Prim.Native.Nat.{◌-◌, ◌<◌, ◌≤◌}
-use mathlib.Core.Path.{refl, sym, ◌∙◌}
+use mathlib.Core.Path.{refl, sym, ap, ◌∙◌}
 use lib.ListN.{length}
+use Rattle.std.proofs.lemmas.Result.{err_from_is_err_and}
 use Rattle.rank.proofs.Running.{running_begins, few_wait, open_room, node_opens, close_depth, close_under, close_room, close_fits, node_sticks, node_closes, not_refused, some_read, end_room, end_sums, tree_ends}
 use Rattle.rank.proofs.number_tree.Goals as goal
+use Rattle.rank.proofs.number_tree.Goals.{in-Opens, in-Closes+in-Some}
 
 pub loop-i-init : goal.loop-i-init
 loop-i-init c = running_begins _ _ _ _ _ _ c.requires.rank_ready c.requires.well_formed.1 c.new-s.ensures
 
 pub overflow_sub-t : goal.overflow_sub-t
-overflow_sub-t c = (open_room c.loop-i.invariant c.loop-i-test.true _ (sym c.entry.ensures ∙ c.in-Opens.is) c.requires.well_formed.0).2
+overflow_sub-t c = (open_room c.loop-i.invariant c.loop-i-test.true _ (sym c.entry.ensures ∙ c.in_ok-t.was ∙ ap Ok c.in-Opens.is) c.requires.well_formed.0).2
 
 pub open_node-requires : goal.open_node-requires
 open_node-requires c =
-    let opens_room : (c.in-Opens.t.depth - 1 < length c.loop-i.opens) × (c.in-Opens.t.depth - 1 < length c.loop-i.begins) × (1 ≤ c.in-Opens.t.depth) = open_room c.loop-i.invariant c.loop-i-test.true _ (sym c.entry.ensures ∙ c.in-Opens.is) c.requires.well_formed.0 in
-    (opens_room.0, opens_room.1, (few_wait c.loop-i.invariant).0)
-
-pub loop-i-preserved-in-Opens : goal.loop-i-preserved-in-Opens
-loop-i-preserved-in-Opens c =
-    node_opens c.loop-i.invariant c.loop-i-test.true _ (sym c.entry.ensures ∙ c.in-Opens.is) c.requires.well_formed.0 _ _ c.open_node.ensures
+    let room : (c.in-Opens.t.depth - 1 < length c.loop-i.opens) × (c.in-Opens.t.depth - 1 < length c.loop-i.begins) × (1 ≤ c.in-Opens.t.depth) = open_room c.loop-i.invariant c.loop-i-test.true _ (sym c.entry.ensures ∙ c.in_ok-t.was ∙ ap Ok c.in-Opens.is) c.requires.well_formed.0 in
+    (room.0, room.1, (few_wait c.loop-i.invariant).0)
 
 pub offset_bounds-begins-d : goal.offset_bounds-begins-d
-offset_bounds-begins-d c = omega (arith, (close_depth c.loop-i.invariant c.loop-i-test.true _ (sym c.entry.ensures ∙ c.in-Closes.is) _ refl).2)
+offset_bounds-begins-d c = omega (arith, (close_depth c.loop-i.invariant c.loop-i-test.true _ (sym c.entry.ensures ∙ c.in_ok-t.was ∙ ap Ok c.in-Closes.is) _ refl).2)
 
 pub bounds-begins-d : goal.bounds-begins-d
-bounds-begins-d c = (close_depth c.loop-i.invariant c.loop-i-test.true _ (sym c.entry.ensures ∙ c.in-Closes.is) _ refl).1
+bounds-begins-d c = (close_depth c.loop-i.invariant c.loop-i-test.true _ (sym c.entry.ensures ∙ c.in_ok-t.was ∙ ap Ok c.in-Closes.is) _ refl).1
 
 pub offset_bounds-opens-d : goal.offset_bounds-opens-d
-offset_bounds-opens-d c = omega (arith, (close_depth c.loop-i.invariant c.loop-i-test.true _ (sym c.entry.ensures ∙ c.in-Closes.is) _ refl).2)
+offset_bounds-opens-d c = omega (arith, (close_depth c.loop-i.invariant c.loop-i-test.true _ (sym c.entry.ensures ∙ c.in_ok-t.was ∙ ap Ok c.in-Closes.is) _ refl).2)
 
 pub bounds-opens-d : goal.bounds-opens-d
-bounds-opens-d c = (close_depth c.loop-i.invariant c.loop-i-test.true _ (sym c.entry.ensures ∙ c.in-Closes.is) _ refl).0
+bounds-opens-d c = (close_depth c.loop-i.invariant c.loop-i-test.true _ (sym c.entry.ensures ∙ c.in_ok-t.was ∙ ap Ok c.in-Closes.is) _ refl).0
 
 pub slice_bounds-close-count : goal.slice_bounds-close-count
-slice_bounds-close-count c = close_under c.loop-i.invariant c.loop-i-test.true _ (sym c.entry.ensures ∙ c.in-Closes.is) _ c.wide-b.ensures
+slice_bounds-close-count c = close_under c.loop-i.invariant c.loop-i-test.true _ (sym c.entry.ensures ∙ c.in_ok-t.was ∙ ap Ok c.in-Closes.is) _ c.from-b.ensures
 
 pub slice_bounds-close-start : goal.slice_bounds-close-start
-slice_bounds-close-start c =
-    omega (arith, (close_under c.loop-i.invariant c.loop-i-test.true _ (sym c.entry.ensures ∙ c.in-Closes.is) _ c.wide-b.ensures))
+slice_bounds-close-start c = omega (arith, close_under c.loop-i.invariant c.loop-i-test.true _ (sym c.entry.ensures ∙ c.in_ok-t.was ∙ ap Ok c.in-Closes.is) _ c.from-b.ensures)
 
 pub slice_bounds-close-count-in-Closes : goal.slice_bounds-close-count-in-Closes
-slice_bounds-close-count-in-Closes c = close_under c.loop-i.invariant c.loop-i-test.true _ (sym c.entry.ensures ∙ c.in-Closes.is) _ c.wide-b.ensures
+slice_bounds-close-count-in-Closes c = close_under c.loop-i.invariant c.loop-i-test.true _ (sym c.entry.ensures ∙ c.in_ok-t.was ∙ ap Ok c.in-Closes.is) _ c.from-b.ensures
 
 pub slice_bounds-close-start-in-Closes : goal.slice_bounds-close-start-in-Closes
-slice_bounds-close-start-in-Closes c =
-    omega (arith, (close_under c.loop-i.invariant c.loop-i-test.true _ (sym c.entry.ensures ∙ c.in-Closes.is) _ c.wide-b.ensures))
+slice_bounds-close-start-in-Closes c = omega (arith, close_under c.loop-i.invariant c.loop-i-test.true _ (sym c.entry.ensures ∙ c.in_ok-t.was ∙ ap Ok c.in-Closes.is) _ c.from-b.ensures)
 
-pub close-requires : goal.close-requires
-close-requires c =
-    record { held = c.requires.rank_ready.rows_held; index = c.requires.rank_ready.index; closable = close_fits c.loop-i.invariant c.loop-i-test.true _ (sym c.entry.ensures ∙ c.in-Closes.is) _ c.wide-b.ensures }
+pub close-requires-clause-closable : goal.close-requires-clause-closable
+close-requires-clause-closable c = close_fits c.loop-i.invariant c.loop-i-test.true _ (sym c.entry.ensures ∙ c.in_ok-t.was ∙ ap Ok c.in-Closes.is) _ c.from-b.ensures
+
+pub returns-in_default : goal.returns-in_default
+returns-in_default c =
+    c.refuse.ensures ∙ node_sticks c.loop-i.invariant c.loop-i-test.true _ (sym c.entry.ensures ∙ c.in_ok-t.was ∙ ap Ok c.in-Closes.is) _ c.from-b.ensures (sym c.close.ensures ∙ c.in_default.is)
 
 pub store_closed-requires : goal.store_closed-requires
 store_closed-requires c =
-    let room : (c.wide-b.result < length c.loop-i.waiting) × (c.wide-b.result < length c.loop-i.values) × (c.wide-b.result < 2048) = close_room c.loop-i.invariant c.loop-i-test.true _ (sym c.entry.ensures ∙ c.in-Closes.is) _ c.wide-b.ensures in
+    let room : (c.from-b.result < length c.loop-i.waiting) × (c.from-b.result < length c.loop-i.values) × (c.from-b.result < 2048) = close_room c.loop-i.invariant c.loop-i-test.true _ (sym c.entry.ensures ∙ c.in_ok-t.was ∙ ap Ok c.in-Closes.is) _ c.from-b.ensures in
     (room.0, room.1)
+
+pub returns-in_err-t : goal.returns-in_err-t
+returns-in_err-t c =
+    let p = err_from_is_err_and c.from_residual.result c.from_residual.ensures.1 in
+    rw (p.1, p.2) (not_refused c.loop-i.invariant c.loop-i-test.true _ (sym c.entry.ensures ∙ c.in_err-t.was) c.requires.well_formed.0)
 
 pub loop-i-preserved : goal.loop-i-preserved
 loop-i-preserved c =
-    node_closes c.loop-i.invariant c.loop-i-test.true _ (sym c.entry.ensures ∙ c.in-Closes.is) _ c.wide-b.ensures _ _ (sym c.close.ensures ∙ c.in-Reaches.is) _ _ c.store_closed.ensures
-
-pub returns-in-Stuck : goal.returns-in-Stuck
-returns-in-Stuck c =
-    c.refuse.ensures ∙ node_sticks c.loop-i.invariant c.loop-i-test.true _ (sym c.entry.ensures ∙ c.in-Closes.is) _ c.wide-b.ensures (sym c.close.ensures ∙ c.in-Stuck.is)
-
-pub returns-in-Refuses : goal.returns-in-Refuses
-returns-in-Refuses c = not_refused c.loop-i.invariant c.loop-i-test.true _ (sym c.entry.ensures ∙ c.in-Refuses.is) c.requires.well_formed.0
+    elim c.match-branch-2.branch [
+      | in-Opens w ↦ rw (w.opens-is, w.begins-is, w.waiting-is, w.values-is, w.w-is, w.s-is) (node_opens c.loop-i.invariant c.loop-i-test.true _ (sym c.entry.ensures ∙ c.in_ok-t.was ∙ ap Ok w.in-Opens.is) c.requires.well_formed.0 _ _ w.open_node.ensures)
+      | in-Closes+in-Some w ↦ rw (w.opens-is, w.begins-is, w.waiting-is, w.values-is, w.w-is, w.s-is) (node_closes c.loop-i.invariant c.loop-i-test.true _ (sym c.entry.ensures ∙ c.in_ok-t.was ∙ ap Ok w.in-Closes.is) _ w.from-b.ensures _ _ (sym w.close.ensures ∙ w.in-Some.is) _ _ w.store_closed.ensures)
+    ]
 
 pub bounds-waiting-0 : goal.bounds-waiting-0
 bounds-waiting-0 c = (end_room c.loop-i.invariant c.loop-i-test.false c.requires.well_formed.0).0
@@ -72,8 +73,8 @@ bounds-waiting-0 c = (end_room c.loop-i.invariant c.loop-i-test.false c.requires
 pub bounds-values-0 : goal.bounds-values-0
 bounds-values-0 c = (end_room c.loop-i.invariant c.loop-i-test.false c.requires.well_formed.0).1
 
-pub overflow_sub-i : goal.overflow_sub-i
-overflow_sub-i c = some_read c.loop-i.invariant c.loop-i-test.false c.requires.well_formed.0
+pub overflow_sub-tree : goal.overflow_sub-tree
+overflow_sub-tree c = some_read c.loop-i.invariant c.loop-i-test.false c.requires.well_formed.0
 
 pub number_in-requires : goal.number_in-requires
 number_in-requires c = end_sums c.loop-i.invariant c.loop-i-test.false c.requires.well_formed.0

@@ -1,8 +1,13 @@
-use Rattle.streams.proofs.Laws.{digested_next, digested_last}
+use Rattle.std.proofs.Common.{sym, ap, ◌∙◌}
+use Rattle.std.specs.List.{fold}
+use lib.Seq.{take_all}
+use Rattle.std.proofs.lemmas.List.Folds.{fold-map}
+use Rattle.streams.specs.Log.{with_entry, digest_after}
 use Rattle.streams.proofs.with_bytes.Goals as goal
 
-pub loop-b-preserved : goal.loop-b-preserved
-loop-b-preserved c = digested_next c.loop-b.invariant _ c.loop-b-test.true c.with_number-d.ensures
-
 pub returns : goal.returns
-returns c entry f = digested_last c.loop-b.invariant c.loop-b-test.false entry f
+unfolding digest_after
+returns g c e p =
+    c.loop-b.invariant e p
+    ∙ ap (fold (λ d b. with_entry d (e b)) c.args.digest) (take_all c.loop-b.b-index c.args.bytes.now c.loop-b-test.false)
+    ∙ sym (fold-map with_entry e c.args.digest c.args.bytes.now)

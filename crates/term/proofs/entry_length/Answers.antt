@@ -7,16 +7,16 @@ use Rattle.term.proofs.entry_length.Goals as goal
 
 pub overflow_add-result : goal.overflow_add-result
 overflow_add-result c =
-    let next : c.wide-2.result ≡ get_or c.args.starts.now c.args.e 0 =
-    c.wide-2.ensures ∙ ap (λ (k : ℕ). get_or c.args.starts.now k 0) c.wide.ensures in
-    let from : c.wide-3.result ≡ get_or c.args.starts.now (c.args.e - 1) 0 =
-    c.wide-3.ensures ∙ ap (λ (k : ℕ). get_or c.args.starts.now k 0) c.line_before.ensures in
+    let next : c.from-2.result ≡ get_or c.args.starts.now c.args.e 0 =
+    c.from-2.ensures ∙ ap (λ (k : ℕ). get_or c.args.starts.now k 0) c.from.ensures in
+    let from : c.from-3.result ≡ get_or c.args.starts.now (c.args.e - 1) 0 =
+    c.from-3.ensures ∙ ap (λ (k : ℕ). get_or c.args.starts.now k 0) c.line_before.ensures in
     omega (arith, (line_length c.requires.lined _ c.requires.e_le_n next from _ (mark_some c.args.before) c.closing_length.ensures).1)
 
 pub returns : goal.returns
 returns c =
-    let next : c.wide-2.result ≡ get_or c.args.starts.now c.args.e 0 =
-    c.wide-2.ensures ∙ ap (λ (k : ℕ). get_or c.args.starts.now k 0) c.wide.ensures in
-    let from : c.wide-3.result ≡ get_or c.args.starts.now (c.args.e - 1) 0 =
-    c.wide-3.ensures ∙ ap (λ (k : ℕ). get_or c.args.starts.now k 0) c.line_before.ensures in
+    let next : c.from-2.result ≡ get_or c.args.starts.now c.args.e 0 =
+    c.from-2.ensures ∙ ap (λ (k : ℕ). get_or c.args.starts.now k 0) c.from.ensures in
+    let from : c.from-3.result ≡ get_or c.args.starts.now (c.args.e - 1) 0 =
+    c.from-3.ensures ∙ ap (λ (k : ℕ). get_or c.args.starts.now k 0) c.line_before.ensures in
     line_length c.requires.lined _ c.requires.e_le_n next from _ (mark_some c.args.before) c.closing_length.ensures

@@ -1,21 +1,26 @@
 use mathlib.Core.Path.{sym, ◌∙◌}
-use Rattle.tree.proofs.Laws.{opened, shut, refused_here, begins, ended, too_long}
+use Rattle.std.proofs.lemmas.Result.{err_from_is_err_and}
+use Rattle.tree.proofs.Laws.{either, refused_here, begins, ended, too_long}
 use Rattle.tree.proofs.check_tree.Goals as goal
+use Rattle.tree.proofs.check_tree.Goals.{in-Opens, in-Opens-2}
 
 pub returns-then-tree-gt4096 : goal.returns-then-tree-gt4096
 returns-then-tree-gt4096 c = record { decided = λ o. c.refuse.ensures ∙ too_long _ c.if-tree-gt4096.true o }
 
-pub loop-i-init : goal.loop-i-init
-loop-i-init c = begins _ _ c.if-tree-gt4096.false c.new-s.ensures
+pub loop-e-init : goal.loop-e-init
+loop-e-init c = begins _ _ c.if-tree-gt4096.false c.new-s.ensures
 
-pub loop-i-preserved-in-Opens : goal.loop-i-preserved-in-Opens
-loop-i-preserved-in-Opens c = opened c.loop-i.invariant c.loop-i-test.true _ (sym c.entry.ensures ∙ c.in-Opens.is)
+pub returns-in_err-t : goal.returns-in_err-t
+returns-in_err-t c =
+    let p = err_from_is_err_and c.from_residual.result c.from_residual.ensures.1 in
+    rw (p.1, p.2) (record { decided = refused_here c.loop-e.invariant c.loop-e-test.true _ (sym c.entry.ensures ∙ c.in_err-t.was) })
 
-pub loop-i-preserved : goal.loop-i-preserved
-loop-i-preserved c = shut c.loop-i.invariant c.loop-i-test.true _ (sym c.entry.ensures ∙ c.in-Closes.is)
-
-pub returns-in-Refuses : goal.returns-in-Refuses
-returns-in-Refuses c = record { decided = refused_here c.loop-i.invariant c.loop-i-test.true _ (sym c.entry.ensures ∙ c.in-Refuses.is) }
+pub loop-e-preserved : goal.loop-e-preserved
+loop-e-preserved c =
+    elim c.match-branch-2.branch [
+      | in-Opens w ↦ rw w.s-is (either c.loop-e.invariant c.loop-e-test.true _ _ (sym c.entry.ensures ∙ c.in_ok-t.was) w.in-Opens.is)
+      | in-Opens-2 w ↦ rw w.s-is (either c.loop-e.invariant c.loop-e-test.true _ _ (sym c.entry.ensures ∙ c.in_ok-t.was) w.in-Opens.is)
+    ]
 
 pub returns : goal.returns
-returns c = ended c.loop-i.invariant c.loop-i-test.false _ c.end.ensures
+returns c = ended c.loop-e.invariant c.loop-e-test.false _ c.end.ensures

@@ -4,13 +4,13 @@ use Rattle.unrank.proofs.Rows.{rows_few, some_row, first_inside, walk_begins, ne
 use Rattle.unrank.proofs.find_row.Goals as goal
 
 pub overflow_sub-r : goal.overflow_sub-r
-overflow_sub-r c = omega (arith, c.wide-r.ensures, some_row c.requires)
+overflow_sub-r c = omega (arith, c.from-r.ensures, some_row c.requires)
 
 pub bounds-words-r : goal.bounds-words-r
-bounds-words-r c = omega (arith, c.wide-r.ensures, first_inside c.requires)
+bounds-words-r c = omega (arith, c.from-r.ensures, first_inside c.requires)
 
 pub loop-p-init : goal.loop-p-init
-loop-p-init c = rw (c.after_in-p.ensures, c.wide-r.ensures) (walk_begins c.requires)
+loop-p-init c = rw (c.after_in-p.ensures, c.from-r.ensures) (walk_begins c.requires)
 
 pub offset_bounds-sums-p : goal.offset_bounds-sums-p
 offset_bounds-sums-p c = omega (arith, next_inside c.requires c.loop-p.invariant c.loop-p-test.true, rows_few c.requires)

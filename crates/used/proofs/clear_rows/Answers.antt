@@ -3,7 +3,7 @@ use Rattle.used.proofs.Clearing.{emptying_begins, emptying_further, emptying_goe
 use Rattle.used.proofs.clear_rows.Goals as goal
 
 pub loop-p-init : goal.loop-p-init
-loop-p-init c = emptying_begins c.requires _ c.wide-p.ensures
+loop-p-init c = emptying_begins c.requires _ c.from-p.ensures
 
 pub loop-p-smaller : goal.loop-p-smaller
 loop-p-smaller c = emptying_further c.requires c.loop-p.invariant c.loop-p-test.true _ c.after_in-p.ensures

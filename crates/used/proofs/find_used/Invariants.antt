@@ -2,8 +2,5 @@
 use Rattle.used.proofs.Pass.{Passing}
 use Rattle.used.proofs.find_used.Given as goal
 
-abbrev pub invariant-loop-n : goal.invariant-loop-n
-invariant-loop-n l = Passing l.states l.pool l.accepting l.words l.counts l.initial.used l.used l.m l.n
-
-abbrev pub decreases-loop-n : goal.decreases-loop-n
-decreases-loop-n l = l.m
+abbrev pub invariant-loop-m : goal.invariant-loop-m
+invariant-loop-m l = Passing l.states l.pool l.accepting l.words l.counts l.initial.used l.used l.m l.n

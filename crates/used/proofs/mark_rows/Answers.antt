@@ -3,7 +3,7 @@ use Rattle.used.proofs.Turn.{taking_ends, turn_begins, turn_stops, turn_further,
 use Rattle.used.proofs.mark_rows.Goals as goal
 
 pub loop-p-init : goal.loop-p-init
-loop-p-init c = turn_begins c.requires _ c.wide-p.ensures
+loop-p-init c = turn_begins c.requires _ c.from-p.ensures
 
 pub returns-then-q-n : goal.returns-then-q-n
 returns-then-q-n c = turn_stops c.requires c.loop-p.invariant c.if-q-n.true

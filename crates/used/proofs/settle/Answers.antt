@@ -2,5 +2,5 @@
 use Rattle.used.proofs.Settling.{settled_none}
 use Rattle.used.proofs.settle.Goals as goal
 
-pub returns : goal.returns
-returns c = settled_none c.requires c.args.prepare _ _ c.if-must_find.false c.must_find.ensures c.first_place-from.ensures
+pub returns-else-from-states : goal.returns-else-from-states
+returns-else-from-states c = settled_none c.requires c.args.prepare _ c.if-prepare.false c.if-from-states.false c.first_place-from.ensures

@@ -5,8 +5,8 @@ use Rattle.used.proofs.settle_used.Goals as goal
 pub find_used-requires : goal.find_used-requires
 find_used-requires c = pass_ready c.requires.0
 
-pub returns-in-At : goal.returns-in-At
-returns-in-At c = settled_fault c.requires.0 c.find_used.ensures c.first_fault.ensures _ _ c.in-At.is
+pub returns-in-Some : goal.returns-in-Some
+returns-in-Some c = settled_fault c.requires.0 c.find_used.ensures c.first_fault.ensures _ _ c.in-Some.is _ c.refuse.ensures
 
-pub returns-in-Nothing : goal.returns-in-Nothing
-returns-in-Nothing c = settled_clear c.requires.0 c.find_used.ensures c.first_fault.ensures c.in-Nothing.is c.clear_unused.ensures
+pub returns : goal.returns
+returns c = settled_clear c.requires.0 c.find_used.ensures c.first_fault.ensures c.in_default.is c.clear_unused.ensures
