@@ -5,12 +5,15 @@
 
 ghost use Rattle.std.specs.Prelude.{◌≡◌, ◌+◌, ◌^◌, ◌<◌, ◌≤◌, ◌%◌, max, ltb, map, if◌then◌else◌};
 ghost use Rattle.std.specs.Option.{unwrap_or};
+ghost use Rattle.std.proofs.Props.{props};
 ghost use Rattle.model.specs.Count.{sum, product};
-ghost use Rattle.rows.specs.Words.{rows_in};
-ghost use Rattle.counts.specs.Chain.{Chainable, ChainedRows};
+ghost use Rattle.rows.specs.Words.{rows_in, afters};
+ghost use Rattle.counts.specs.Chain.{Chainable, Chained, ChainedRows};
 ghost use Rattle.counts.specs.Marks.{long_in, over_in, ceiling, long_ceiling, Tells};
 ghost use Rattle.counts.specs.Kept.{Is};
 ghost use Rattle.counts.specs.States.{held, ArgsPlaced, Marked, Some, Fits, Weighable, weight_by, Countable, Summed, CountReady, CountedStates};
+
+use rows::Rows;
 
 // The parts of a mark: entries below the first, bits of the count from it on, the mark for a count beyond 64 bits, the mark for no trees.
 const BIT: u64 = 1048576;
@@ -21,6 +24,14 @@ const EMPTY: u64 = 1099511627776;
 
 // Longest trees are kept to this, the first number above their limit.
 const LENGTH_CEILING: u64 = 4097;
+
+// Rows chained by their targets: the first row of each state's chain, the links standing in the words.
+#[derive(Clone, Copy)]
+pub struct ByTarget<'a> {
+    pub rows: Rows<'a>,
+    pub first: &'a [u16],
+    ghost chained: { Chained (rows_in rows.pool.now rows.words.now) first.now (afters rows.words.now) } by { Prim.hlevel props },
+}
 
 // What a state counts, or nothing if that is beyond 64 bits, and how many entries its longest tree has, kept to 4,097.
 #[derive(Clone, Copy)]

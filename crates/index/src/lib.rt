@@ -2,6 +2,7 @@
 #![tactic(auto)]
 
 ghost use Rattle.std.specs.Prelude.{◌≡◌, ◌+◌, ◌*◌, ◌/◌, ◌%◌, ◌<◌, ◌≤◌, length, get_or, drop};
+ghost use Rattle.std.proofs.Props.{props};
 ghost use Rattle.model.specs.Table.{row_is};
 ghost use Rattle.rows.specs.Words.{row_in, row_held, rows_in, nexts, Inside, Held};
 ghost use Rattle.index.specs.Hash.{two, fours, mix, mix_all, hash_of, Multiplier, Sized};
@@ -10,6 +11,7 @@ ghost use Rattle.index.specs.Taken.{Takeable, Taken};
 ghost use Rattle.index.specs.declared.EnterError.TheVariants.{Crowded as EnterCrowded};
 
 use model::{Kind, Refusal, refuse};
+use rows::Rows;
 
 // A chain of the index is longer than allowed.
 #[derive(Clone, Copy)]
@@ -118,26 +120,29 @@ fn seek(
     Ok(None)
 }
 
-// The row with this symbol and these arguments.
-pub fn find_row(
-    pool: &[u16],
-    words: &[u64],
-    heads: &[u16],
-    by: u64,
-    symbol: u16,
-    args: &[u16],
-) -> Option<usize>
-    requires held { Held pool.now words.now (length words.now) }
-    requires index { Index by (rows_in pool.now words.now) heads.now (nexts words.now) }
-    ensures { result ≡ row_found (rows_in pool.now words.now) symbol args.now }
-{
-    if 16 < args.len() || 255 < symbol {
-        return None;
+// Rows and their index: the first row of each bucket's chain, and the multiplier of the hash.
+#[derive(Clone, Copy)]
+pub struct RowIndex<'a> {
+    pub rows: Rows<'a>,
+    pub heads: &'a [u16],
+    pub by: u64,
+    ghost index: { Index by (rows_in rows.pool.now rows.words.now) heads.now (nexts rows.words.now) } by { Prim.hlevel props },
+}
+
+impl<'a> RowIndex<'a> {
+    // The row with this symbol and these arguments.
+    pub fn find(&self, symbol: u16, args: &[u16]) -> Option<usize>
+        ensures { result ≡ row_found (rows_in self.now.rows.pool.now self.now.rows.words.now) symbol args.now }
+    {
+        if 16 < args.len() || 255 < symbol {
+            return None;
+        }
+        let Rows { pool, words } = self.rows;
+        let key = u64::from(symbol) + args.len() as u64 * 256;
+        let b = hash(self.by, self.heads.len(), key, args);
+        // no chain has more than 1,024 rows
+        seek(pool, words, self.heads, words.len(), b, 2048, key, args).unwrap()
     }
-    let key = u64::from(symbol) + args.len() as u64 * 256;
-    let b = hash(by, heads.len(), key, args);
-    // no chain has more than 1,024 rows
-    seek(pool, words, heads, words.len(), b, 2048, key, args).unwrap()
 }
 
 // Puts row n, whose arguments begin at `from` in the pool, behind the words of the rows before it, and enters it in their index, unless it

@@ -1,11 +1,12 @@
 -- The lines of a names list as the code holds them, and the index of names. Assumes nothing: these are definitions.
 use Rattle.std.specs.Prelude.{ℕ, zero, suc, ◌+◌, ◌*◌, ◌/◌, ◌%◌, ◌^◌, ◌<◌, ◌≤◌, ◌≡◌, Bool, true, false, ◌&&◌, List, [], ◌∷◌, map, length, get_or, take, drop, if◌then◌else◌, Result, Ok, Err}
-use Rattle.std.specs.Int.Bits.{bit_or, bit_xor}
+use Rattle.std.specs.Int.Bits.{bit_or}
 use Rattle.model.specs.Answers.{Outcome, refused_by}
 use Rattle.model.specs.Names.{is_name, same_name, line_at, how_many_names, names_then}
 use Rattle.chains.specs.First.{first_with}
 use Rattle.words.specs.Words.{is_inner, is_list_byte, packed}
 use Rattle.chains.specs.Chains.{Chains}
+use Rattle.chains.specs.Digest.{mixed_by}
 use Rattle.std.specs.Prelude.{Option}
 use Rattle.std.specs.Prelude.{Some, None}
 use Rattle.names.specs.declared.Stretch.{Stretch}
@@ -30,11 +31,8 @@ abbrev pub front_of : (n w : ℕ) → ℕ
 front_of n w = bit_or w 0x2020_2020_2020_2020 % 256 ^ n
 
 -- one word more in a hash
-abbrev pub product : (h w : ℕ) → ℕ
-product h w = bit_xor (bit_xor h w % 4294967296 * 2146121005) (w / 4294967296 * 1540483477)
-
 unfoldable pub mixed : (h w : ℕ) → ℕ
-mixed h w = bit_xor (product h w) (product h w / 4294967296)
+mixed h w = mixed_by 2146121005 1540483477 h w
 
 -- k words of eight bytes, and what is left of the bytes as a last one
 unfoldable pub mix_words : (k h : ℕ) → List ℕ → ℕ

@@ -7,6 +7,7 @@ ghost use Rattle.chains.specs.Chains.{Clear};
 ghost use Rattle.words.specs.Words.{is_list_byte};
 ghost use Rattle.names.specs.NamesIndex.{caseless, all_inner, stretch, front_of, mixed, bucket_at, StretchFrom, OnlyListBytes, name_end, name_found, Lined, Sought, Started, NamesAnswer};
 
+use chains::mixed;
 use model::{Kind, Refusal, refuse};
 use words::{foreign_bytes, inner_ahead, word_at, word_or_rest, words_alike};
 
@@ -100,8 +101,7 @@ fn only_list_bytes(names: &[u8]) -> bool
 fn mix(h: u64, w: u64) -> u64
     ensures { result ≡ mixed h w }
 {
-    let p = ((h ^ w) % 4294967296) * 2146121005 ^ w / 4294967296 * 1540483477;
-    p ^ p / 4294967296
+    mixed::<2146121005, 1540483477>(h, w)
 }
 
 // The bucket of a hash, one of 512.

@@ -12,7 +12,9 @@ ghost use Rattle.counts.specs.States.{held};
 ghost use Rattle.rank.specs.Machine.{formed, node_of, numbered, machine};
 ghost use Rattle.rank.specs.RankReady.{Foldable, Formable, Closable, Summable, RankReady, StackRoom};
 
+use index::RowIndex;
 use model::{Answer, Kind, refuse};
+use rows::Rows;
 use tree::{Reading, Step};
 
 // The children's values as one: for each child from the first, multiply by the count of its state and add its value.
@@ -39,10 +41,10 @@ fn value_in(counts: &[u64], sums: &[u64], states: &[u16], values: &[u64], k: usi
 }
 
 // The state that a tree with this symbol reaches, whose children have these states and values, and its value there; or nothing if it reaches none.
-fn close(
-    pool: &[u16],
-    words: &[u64],
-    heads: &[u16],
+fn close<'a>(
+    pool: &'a [u16],
+    words: &'a [u64],
+    heads: &'a [u16],
     by: u64,
     counts: &[u64],
     sums: &[u64],
@@ -56,7 +58,9 @@ fn close(
     ensures { result ≡ node_of (rows_in pool.now words.now) counts.now sums.now
         symbol states.now values.now }
 {
-    let k = index::find_row(pool, words, heads, by, symbol, states)?;
+    let rows = Rows { pool, words };
+    let index = RowIndex { rows, heads, by };
+    let k = index.find(symbol, states)?;
     let q = rows::target_in(words[k]);
     Some((q, value_in(counts, sums, states, values, k, q)))
 }

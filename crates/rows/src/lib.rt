@@ -1,13 +1,32 @@
 // Rows as words: one row by the grounds 2 to 5, and one number a row for all that comes after.
 #![tactic(auto)]
 
-ghost use Rattle.std.specs.Prelude.{◌≡◌, ◌+◌, ◌<◌, length};
+ghost use Rattle.std.specs.Prelude.{◌≡◌, ◌+◌, ◌<◌, length, slice_index};
+ghost use Rattle.std.proofs.Props.{props};
 ghost use Rattle.model.specs.Table.{args_at, Whole};
 ghost use Rattle.model.specs.Check.{cut, too_many};
-ghost use Rattle.rows.specs.Words.{a_row, word_of, symbol_in, target_in, next_in, after_in, args_in, Inside};
+ghost use Rattle.rows.specs.Words.{a_row, word_of, symbol_in, target_in, next_in, after_in, args_in, Inside, Held};
 ghost use Rattle.rows.specs.Walk.{above, out_by, row_fault, row_step};
 
 use model::Kind;
+
+// Rows as words: each holds a row whose arguments stand in the pool.
+#[derive(Clone, Copy)]
+pub struct Rows<'a> {
+    pub pool: &'a [u16],
+    pub words: &'a [u64],
+    ghost held: { Held pool.now words.now (length words.now) } by { Prim.hlevel props },
+}
+
+impl<'a> Rows<'a> {
+    // The arguments of a row.
+    pub fn args(&self, k: usize) -> &'a [u16]
+        requires { k < length self.now.words.now }
+        ensures { result.now ≡ args_in self.now.pool.now (slice_index self.now.words.now k) }
+    {
+        args_in(self.pool, self.words[k])
+    }
+}
 
 // The word of a row whose arguments begin at `from` in the pool, with the index's link.
 pub fn word(symbol: u16, count: usize, target: u16, from: usize, next: u16) -> u64

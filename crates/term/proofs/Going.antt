@@ -1,5 +1,8 @@
 -- The text read so far, with the entries that are kept. Assumes nothing.
-use Rattle.std.specs.Prelude.{if◌then◌else◌}
+use Rattle.std.specs.Prelude.{if◌then◌else◌, Result, Ok, Err}
+use Rattle.model.specs.Answers.{Outcome, refused, refused_by}
+use Rattle.model.specs.Choice.{first_faulty}
+use Rattle.model.specs.declared.Refusal.{Refusal}
 use Prim.Native.Nat.{ℕ, zero, suc, ◌+◌, ◌-◌, ◌*◌, ◌<◌, ◌≤◌}
 use mathlib.Core.Path.{◌≡◌, refl, sym, ap, ◌∙◌}
 use mathlib.Core.Bool.{Bool, true, false, not}
@@ -20,15 +23,15 @@ use Rattle.model.proofs.Alike.{same_folded, small_name}
 use Rattle.std.specs.Prelude.{Some, None}
 use Rattle.chains.proofs.First.{first_is}
 use Rattle.words.specs.Words.{is_inner}
-use Rattle.names.specs.NamesIndex.{name_found, stretch}
+use Rattle.names.specs.NamesIndex.{name_found, stretch, NamesIndexed, StretchFrom}
+use Rattle.names.specs.declared.Stretch.{Stretch}
 use Rattle.names.proofs.Bytes.{name_inner, outer_no_byte, stretch_split, stretch_all}
 use Rattle.names.proofs.Lines.{name_short, part_stretch}
 use Rattle.scan.specs.TextState.{scanned}
 use Rattle.term.specs.Emit.{node_entries, emitted}
 use Rattle.term.proofs.Tokens.{emitted_is}
 use Rattle.term.proofs.Runs.{Fresh, fresh_first, run_within, rest_is, other_ground, other_fresh, after_byte, run_is, run_clean, run_whole, longer, run_entries, run_grounds, listed_ground, unlisted_ground}
-use Rattle.term.specs.Pass.{Barred, Onward, unlisted_at, SymbolPut, Cleared, Holds, Passed}
-use Rattle.term.specs.declared.Pass.TheVariants.{Breaks, Unlisted, Taken}
+use Rattle.term.specs.Pass.{Barred, Onward, Breaks, unlisted_at, SymbolPut, Cleared, Holds, Passed}
 use Rattle.term.proofs.Kept.{kept_more}
 
 -- ---- the scan of a name
@@ -63,27 +66,25 @@ name_breaks (b ∷ more) ys d j p a h l = go (ltb j 24) refl (λ m. name_breaks 
 
 -- ---- the answers
 
-passed_breaks : {names text entries : List ℕ} (p : ℕ) → scanned text ≡ breaks_at p → Passed names text entries (Breaks p)
-unfolding term_then
-passed_breaks p e = record { decided = λ o. rw e; counted = λ m h. never h; held = λ m h. never h }
+passed_refused : {names text entries : List ℕ} (e : Refusal) → ((o : Outcome) → refused_by e ≡ term_then text (first_faulty (length text) (name_ground names text) o))
+    → Passed names text entries (Err e)
+passed_refused e d = record { decided = d; counted = λ m h. never h; held = λ m h. never h }
   where
-    never : {A : Type 0} {m : ℕ} → Breaks p ≡ Taken m → A
+    never : {A : Type 0} {m : ℕ} → (let r : Result ℕ Refusal = Err e in r ≡ Ok m) → A
     never h = let z : ◌≡◌ {A = ℕ} 0 1 = cc in absurd (omega arith)
 
-passed_unlisted : {names text entries : List ℕ} (i : ℕ) → scanned text ≡ passes → i < length text → ((j : ℕ) → j < i → name_ground names text j ≡ 0) → name_ground names text i ≡ 20
-    → Passed names text entries (Unlisted i)
+passed_breaks : {names text entries : List ℕ} {e : Refusal} (p : ℕ) → refused_by e ≡ refused 19 p → scanned text ≡ breaks_at p → Passed names text entries (Err e)
 unfolding term_then
-passed_unlisted {names} {text} i e l s g = record {
-  decided = λ o. rw e (fault_refused (length text) i 20 (name_ground names text) o l s g (omega arith));
-  counted = λ m h. never h;
-  held = λ m h. never h;
-}
-  where
-    never : {A : Type 0} {m : ℕ} → Unlisted i ≡ Taken m → A
-    never h = let z : ◌≡◌ {A = ℕ} 0 1 = cc in absurd (omega arith)
+passed_breaks {e = e} p r s = passed_refused e (λ o. rw s r)
+
+passed_unlisted : {names text entries : List ℕ} {e : Refusal} (i : ℕ) → refused_by e ≡ refused 20 i → scanned text ≡ passes → i < length text
+    → ((j : ℕ) → j < i → name_ground names text j ≡ 0) → name_ground names text i ≡ 20 → Passed names text entries (Err e)
+unfolding term_then
+passed_unlisted {names} {text} {e = e} i r s l d g =
+    passed_refused e (λ o. rw s (r ∙ fault_refused (length text) i 20 (name_ground names text) o l d g (omega arith)))
 
 passed_taken : {names text entries : List ℕ} (m : ℕ) → scanned text ≡ passes → ((j : ℕ) → j < length text → name_ground names text j ≡ 0)
-    → m ≡ length (emitted names false text) → Holds entries (emitted names false text) → Passed names text entries (Taken m)
+    → m ≡ length (emitted names false text) → Holds entries (emitted names false text) → Passed names text entries (Ok m)
 unfolding term_then
 passed_taken {names} {text} {entries} m e s c x = record {
   decided = λ o. rw e (sym (no_fault (length text) (name_ground names text) o s));
@@ -91,7 +92,7 @@ passed_taken {names} {text} {entries} m e s c x = record {
   held = λ k h. rw (sym (emitted_is names text (whole_term text e))) x;
 }
   where
-    same : (k : ℕ) → Taken m ≡ Taken k → m ≡ k
+    same : (k : ℕ) → (let r : Result ℕ Refusal = Ok m in r ≡ Ok k) → m ≡ k
     same k h = cc
 
 -- ---- the text read so far
@@ -240,14 +241,15 @@ module _ {names text entries : List ℕ} {at depth i : ℕ} (x : Going names tex
 
 -- no line has it
 pub go_unlisted : {names text entries : List ℕ} {at depth i : ℕ} → Going names text entries at depth i → (n end : ℕ) → n ≡ how_many_names names
-    → end ≡ i + length (stretch (drop i text)) → name_found names n (take (end - i) (drop i text)) ≡ None → Passed names text entries (unlisted_at (scanned text) i)
-go_unlisted {names} {text} {entries} {at} {depth} {i} x n end c e f = go (scanned text) refl
+    → end ≡ i + length (stretch (drop i text)) → name_found names n (take (end - i) (drop i text)) ≡ None
+    → {r : Refusal} → refused_by r ≡ unlisted_at (scanned text) i → Passed names text entries (Err r)
+go_unlisted {names} {text} {entries} {at} {depth} {i} x n end c e f {r} t = go (scanned text) refl t
   where
-    go : (s : Scan) → scanned text ≡ s → Passed names text entries (unlisted_at s i)
-    go passes h =
+    go : (s : Scan) → scanned text ≡ s → refused_by r ≡ unlisted_at s i → Passed names text entries (Err r)
+    go passes h t =
         let q : end ≡ i + length (run (drop i text)) = e ∙ ap (λ (y : List ℕ). i + length y) (stretch_term x h) in
-        passed_unlisted i h (inside_term x h) x.sound (unlisted_ground names text i end (inside_term x h) (first_byte (name_term x h)) q n c x.fresh f)
-    go (breaks_at p) h = passed_breaks p h
+        passed_unlisted i t h (inside_term x h) x.sound (unlisted_ground names text i end (inside_term x h) (first_byte (name_term x h)) q n c x.fresh f)
+    go (breaks_at p) h t = passed_breaks p t h
 
 -- the run is a name, and line k has it
 pub record NameFound (names text entries : List ℕ) (at depth i end n k : ℕ) : Type 0 where
@@ -304,6 +306,12 @@ module _ {names text entries : List ℕ} {at depth i : ℕ} (x : Going names tex
     found = f;
   }
 
+-- the same of the index that is looked in and the stretch that is looked up
+pub name_there : {seed : ℕ} {names starts heads next text entries : List ℕ} {at depth i n k : ℕ} {r : Stretch} → Going names text entries at depth i
+    → NamesIndexed seed names starts heads next n → n ≡ how_many_names names → StretchFrom seed text i r
+    → name_found names n (take (r.end - i) (drop i text)) ≡ Some k → NameFound names text entries at depth i r.end n k
+name_there x t c s f = found_name x _ _ _ c s.ends s.within (λ j l. (t.lined.stands j l).named) f
+
 module _ {names text entries : List ℕ} {at depth i end n k : ℕ} (x : NameFound names text entries at depth i end n k) where
   listed : (name_ground names text i ≡ 0) × (symbol_of names (name_at text i) ≡ k + 1) × (k < n)
   listed = listed_ground names text i end x.read.inside (first_byte x.read) x.read.ends n k x.count x.found
@@ -342,7 +350,7 @@ module _ {names text entries : List ℕ} {at depth i end n k : ℕ} (x : NameFou
     held_after_lem = kept_more entries new x.read.going.done at (k + 1) bars x.read.going.place x.read.going.held p
 
   -- another name is due
-  pub go_name : (new : List ℕ) → SymbolPut entries new at (k + 1) → (i' d bars : ℕ) → Onward text end depth i' d bars → Going names text new (at + 1 + bars) d i'
+  pub go_name : (new : List ℕ) → SymbolPut entries new at (k + 1) → (i' d bars : ℕ) → Onward text end depth i' d bars → Going names text new (at + (1 + bars)) d i'
   go_name new p i' d bars o = record {
     short = x.read.going.short;
     within = o.barred.within;
@@ -352,7 +360,7 @@ module _ {names text entries : List ℕ} {at depth i end n k : ℕ} (x : NameFou
     sound = sound_to i' o.barred.within o.barred.others;
     fresh = fresh_after;
     done = done_after new p i' bars o.barred;
-    place = length_after new p i' bars o.barred;
+    place = length_after new p i' bars o.barred ∙ (let z : at + 1 + bars ≡ at + (1 + bars) = omega arith in z);
     whole = whole_after new p i' bars o.barred;
     held = held_after_lem new p i' bars o.barred;
   }
@@ -366,7 +374,7 @@ module _ {names text entries : List ℕ} {at depth i end n k : ℕ} (x : NameFou
 
   -- the text ends
   pub go_taken : (new : List ℕ) → SymbolPut entries new at (k + 1) → (bars : ℕ) → Barred text end (length text) bars → ((m : ℕ) → scan (in_name depth m) end (drop end text) ≡ passes)
-      → Passed names text new (Taken (at + 1 + bars))
+      → Passed names text new (Ok (at + 1 + bars))
   unfolding emitted
   go_taken new p bars b s =
       passed_taken (at + 1 + bars)
@@ -381,5 +389,5 @@ module _ {names text entries : List ℕ} {at depth i end n k : ℕ} (x : NameFou
           ∙ whole_after new p (length text) bars b
 
   -- it breaks
-  pub go_breaks : (new : List ℕ) (r : ℕ) → ((m : ℕ) → scan (in_name depth m) end (drop end text) ≡ breaks_at r) → Passed names text new (Breaks r)
-  go_breaks new r s = passed_breaks r (sym (name_read x.read x.short) ∙ s (1 + length (run (drop (i + 1) text))))
+  pub go_breaks : (new : List ℕ) {e : Refusal} → Breaks text end depth e → Passed names text new (Err e)
+  go_breaks new b = passed_breaks b.place b.refuses (sym (name_read x.read x.short) ∙ b.scans (1 + length (run (drop (i + 1) text))))

@@ -6,7 +6,7 @@ use mathlib.Core.Bool.{Bool, true, false}
 use mathlib.Core.List.{List, [], ◌∷◌, ◌++◌}
 use native.Mathlib.Omega.{arith}
 use lib.ListN.{length, get_or, set, take, drop, replicate, length-set, drop_of_length-le}
-use lib.Seq.{get_or-set_same, get_or-set_other, get_or-take, length-take-le}
+use lib.Seq.{get_or-set_same, get_or-set_other, length-take-le}
 use lib.Dec.{eqb, eqb-suc-zero, eqb-zero-suc, eqb-suc-suc}
 use borrow.Author.Tests.{eqb-true, ne_eqb, eqb-false}
 use Rattle.model.proofs.Lists.{drop_next}
@@ -35,12 +35,13 @@ module _ (entries old : List ℕ) (count : ℕ) (f : count ≤ length entries) (
   pub front_first : Writing old old (take count entries) (take count entries) 0
   front_first = writing_first old (take count entries) (omega (arith, taken_length))
 
-  pub front_next : (new : List ℕ) (i : ℕ) → Writing old new (take count entries) (drop i (take count entries)) i → i < count
-      → Writing old (set new i (get_or entries i 0)) (take count entries) (drop (i + 1) (take count entries)) (i + 1)
+  pub front_next : (new : List ℕ) (i : ℕ) → Writing old new (take count entries) (drop i (take count entries)) i → i < length (take count entries)
+      → Writing old (set new i (get_or (take count entries) i 0)) (take count entries) (drop (i + 1) (take count entries)) (i + 1)
   front_next new i x l =
-      let d = drop_next (take count entries) i (omega (arith, taken_length)) ∙ ap (λ (y : ℕ). y ∷ drop (i + 1) (take count entries)) (get_or-take count entries i 0 l) in
-      let y : Writing old new (take count entries) ((get_or entries i 0 ∷ []) ++ drop (i + 1) (take count entries)) i = rw d at x in
-      piece_written (get_or entries i 0 ∷ []) (drop (i + 1) (take count entries)) y (set new i (get_or entries i 0)) (i + 1) (one_set new i (get_or entries i 0) (omega (arith, writing_length x))) refl
+      let e = get_or (take count entries) i 0 in
+      let rest = drop (i + 1) (take count entries) in
+      let y : Writing old new (take count entries) ((e ∷ []) ++ rest) i = rw (drop_next (take count entries) i l) at x in
+      piece_written (e ∷ []) rest y (set new i e) (i + 1) (one_set new i e (omega (arith, writing_length x, taken_length))) refl
 
   pub front_last : (new : List ℕ) (i : ℕ) → Writing old new (take count entries) (drop i (take count entries)) i → count ≤ i → Front old new (take count entries)
   front_last new i x g = record { holds = writing_last (rw (drop_of_length-le (take count entries) {i = i} (omega (arith, taken_length))) at x) }

@@ -1,5 +1,5 @@
 -- The marks after a name: brackets and commas. Assumes nothing.
-use Rattle.std.specs.Prelude.{if◌then◌else◌}
+use Rattle.std.specs.Prelude.{if◌then◌else◌, Result, Ok, Err}
 use Prim.Native.Nat.{ℕ, zero, suc, ◌+◌, ◌-◌, ◌<◌, ◌≤◌}
 use mathlib.Core.Path.{◌≡◌, refl, sym, ap, ◌∙◌}
 use mathlib.Core.Bool.{Bool, true, false, not}
@@ -16,7 +16,10 @@ use Rattle.model.proofs.Bytes.{open_no_byte, close_no_byte, comma_no_byte}
 use Rattle.term.specs.Emit.{node_entries, emitted}
 use Rattle.term.proofs.Runs.{other_entries}
 use Rattle.term.specs.Pass.{Closing, Barred, Onward, Follows}
-use Rattle.term.specs.declared.After.TheVariants.{Name, Ends, Breaks as AfterBreaks}
+use Rattle.term.specs.declared.After.{After}
+use Rattle.term.specs.declared.After.TheVariants.{Name, Ends}
+use Rattle.model.specs.Answers.{refused, refused_by}
+use Rattle.model.specs.declared.Refusal.{Refusal}
 
 -- ---- one mark
 
@@ -108,45 +111,46 @@ module _ {text : List ℕ} {at depth c : ℕ} (x : Counting text at depth c) whe
 -- ---- what follows a name
 
 -- an answer by its case
-follows_name : {text : List ℕ} {end depth i d b : ℕ} → Onward text end depth i d b → Follows text end depth (Name i d b)
+abbrev Found : Type 0
+Found = Result After Refusal
+
+follows_name : {text : List ℕ} {end depth i d b : ℕ} → Onward text end depth i d b → Follows text end depth (Ok (Name i d b))
 follows_name {text} {end} {depth} {i} {d} {b} x = record { name = λ i' d' b' e. same i' d' b' e; ends = λ b' e. never e; breaks = λ p e. other e }
   where
-    same : (i' d' b' : ℕ) → Name i d b ≡ Name i' d' b' → Onward text end depth i' d' b'
+    same : (i' d' b' : ℕ) → (let r : Found = Ok (Name i d b) in r ≡ Ok (Name i' d' b')) → Onward text end depth i' d' b'
     same i' d' b' e =
         let f : i ≡ i' = cc in
         let g : d ≡ d' = cc in
         let h : b ≡ b' = cc in
         rw (sym f, sym g, sym h) x
 
-    never : {A : Type 0} {b' : ℕ} → Name i d b ≡ Ends b' → A
+    never : {A : Type 0} {b' : ℕ} → (let r : Found = Ok (Name i d b) in r ≡ Ok (Ends b')) → A
     never e = let z : ◌≡◌ {A = ℕ} 0 1 = cc in absurd (omega arith)
 
-    other : {A : Type 0} {p : ℕ} → Name i d b ≡ AfterBreaks p → A
+    other : {A : Type 0} {p : Refusal} → (let r : Found = Ok (Name i d b) in r ≡ Err p) → A
     other e = let z : ◌≡◌ {A = ℕ} 0 1 = cc in absurd (omega arith)
 
-follows_end : {text : List ℕ} {end depth b : ℕ} → Barred text end (length text) b → ((m : ℕ) → scan (in_name depth m) end (drop end text) ≡ passes) → Follows text end depth (Ends b)
+follows_end : {text : List ℕ} {end depth b : ℕ} → Barred text end (length text) b → ((m : ℕ) → scan (in_name depth m) end (drop end text) ≡ passes) → Follows text end depth (Ok (Ends b))
 follows_end {text} {end} {depth} {b} x y = record { name = λ i d b' e. never e; ends = λ b' e. same b' e; breaks = λ p e. other e }
   where
-    same : (b' : ℕ) → Ends b ≡ Ends b' → Barred text end (length text) b' × ((m : ℕ) → scan (in_name depth m) end (drop end text) ≡ passes)
+    same : (b' : ℕ) → (let r : Found = Ok (Ends b) in r ≡ Ok (Ends b')) → Barred text end (length text) b' × ((m : ℕ) → scan (in_name depth m) end (drop end text) ≡ passes)
     same b' e = let h : b ≡ b' = cc in (rw (sym h) x, y)
 
-    never : {A : Type 0} {i d b' : ℕ} → Ends b ≡ Name i d b' → A
+    never : {A : Type 0} {i d b' : ℕ} → (let r : Found = Ok (Ends b) in r ≡ Ok (Name i d b')) → A
     never e = let z : ◌≡◌ {A = ℕ} 0 1 = cc in absurd (omega arith)
 
-    other : {A : Type 0} {p : ℕ} → Ends b ≡ AfterBreaks p → A
+    other : {A : Type 0} {p : Refusal} → (let r : Found = Ok (Ends b) in r ≡ Err p) → A
     other e = let z : ◌≡◌ {A = ℕ} 0 1 = cc in absurd (omega arith)
 
-follows_break : {text : List ℕ} {end depth p : ℕ} → ((m : ℕ) → scan (in_name depth m) end (drop end text) ≡ breaks_at p) → Follows text end depth (AfterBreaks p)
-follows_break {text} {end} {depth} {p} y = record { name = λ i d b e. never e; ends = λ b e. other e; breaks = λ q e m. y m ∙ same q e }
+follows_break : {text : List ℕ} {end depth p : ℕ} {e : Refusal} → refused_by e ≡ refused 19 p → ((m : ℕ) → scan (in_name depth m) end (drop end text) ≡ breaks_at p)
+    → Follows text end depth (Err e)
+follows_break {text} {end} {depth} {p} {e} x y = record { name = λ i d b h. never h; ends = λ b h. never h; breaks = λ q h. rw (sym (same q h)) (record { place = p; refuses = x; scans = y }) }
   where
-    same : (q : ℕ) → AfterBreaks p ≡ AfterBreaks q → breaks_at p ≡ breaks_at q
-    same q e = let h : p ≡ q = cc in ap breaks_at h
+    same : (q : Refusal) → (let r : Found = Err e in r ≡ Err q) → e ≡ q
+    same q h = cc
 
-    never : {A : Type 0} {i d b : ℕ} → AfterBreaks p ≡ Name i d b → A
-    never e = let z : ◌≡◌ {A = ℕ} 0 1 = cc in absurd (omega arith)
-
-    other : {A : Type 0} {b : ℕ} → AfterBreaks p ≡ Ends b → A
-    other e = let z : ◌≡◌ {A = ℕ} 0 1 = cc in absurd (omega arith)
+    never : {A : Type 0} {a : After} → (let r : Found = Err e in r ≡ Ok a) → A
+    never h = let z : ◌≡◌ {A = ℕ} 0 1 = cc in absurd (omega arith)
 
 -- a byte other than 0 stands inside the text
 inside : (text : List ℕ) (i b : ℕ) → get_or text i 0 ≡ suc b → i < length text
@@ -172,7 +176,7 @@ module _ (text : List ℕ) (end depth : ℕ) (nb : is_name_byte (get_or text end
         (other_entries names text end open_inside nb
         ∙ ap (λ (b : Bool). (if b then 0 ∷ [] else []) ++ emitted names false (drop (end + 1) text)) (ne_eqb (get_or text end 0) 41 (λ h. let z = is_open in omega arith)))
 
-    pub opened_on : Follows text end depth (Name (end + 1) (depth + 1) 0)
+    pub opened_on : Follows text end depth (Ok (Name (end + 1) (depth + 1) 0))
     opened_on =
         let l = open_inside in
         follows_name (record {
@@ -206,7 +210,7 @@ module _ (text : List ℕ) (end depth : ℕ) (nb : is_name_byte (get_or text end
 
     -- the text ends
     module _ (z : end + c ≡ length text) where
-      pub shut_ends : depth ≡ c → Follows text end depth (Ends (c + 1))
+      pub shut_ends : depth ≡ c → Follows text end depth (Ok (Ends (c + 1)))
       shut_ends d = follows_end
           (record {
             within = omega arith;
@@ -216,19 +220,19 @@ module _ (text : List ℕ) (end depth : ℕ) (nb : is_name_byte (get_or text end
           })
           (λ m. shut_scans m ∙ ended text (end + c) (depth - c) (omega arith) ∙ ap (λ (b : Bool). if b then passes else breaks_at (end + c)) (eq-eqb (depth - c) 0 (omega arith)))
 
-      pub shut_early : (depth ≡ c → ⊥) → Follows text end depth (AfterBreaks (end + c))
-      shut_early d = follows_break
+      pub shut_early : (depth ≡ c → ⊥) → {e : Refusal} → refused_by e ≡ refused 19 (end + c) → Follows text end depth (Err e)
+      shut_early d t = follows_break t
           (λ m. shut_scans m ∙ ended text (end + c) (depth - c) (omega arith) ∙ ap (λ (b : Bool). if b then passes else breaks_at (end + c)) (ne_eqb (depth - c) 0 (λ h. d (let f = x.few in omega arith))))
 
     -- it goes on
     module _ (l : end + c < length text) where
-      pub shut_over : depth ≡ c → Follows text end depth (AfterBreaks (end + c))
-      shut_over d = follows_break (λ m. shut_scans m ∙ stopped text (end + c) l (depth - c) (λ p. absurd (omega arith)) (λ p. absurd (omega arith)))
+      pub shut_over : depth ≡ c → {e : Refusal} → refused_by e ≡ refused 19 (end + c) → Follows text end depth (Err e)
+      shut_over d t = follows_break t (λ m. shut_scans m ∙ stopped text (end + c) l (depth - c) (λ p. absurd (omega arith)) (λ p. absurd (omega arith)))
 
-      pub shut_other : (depth ≡ c → ⊥) → (get_or text (end + c) 0 ≡ 44 → ⊥) → Follows text end depth (AfterBreaks (end + c))
-      shut_other d k = follows_break (λ m. shut_scans m ∙ stopped text (end + c) l (depth - c) (λ p h. x.stop (omega arith) h) (λ p h. k h))
+      pub shut_other : (depth ≡ c → ⊥) → (get_or text (end + c) 0 ≡ 44 → ⊥) → {e : Refusal} → refused_by e ≡ refused 19 (end + c) → Follows text end depth (Err e)
+      shut_other d k t = follows_break t (λ m. shut_scans m ∙ stopped text (end + c) l (depth - c) (λ p h. x.stop (omega arith) h) (λ p h. k h))
 
-      pub shut_comma : (depth ≡ c → ⊥) → get_or text (end + c) 0 ≡ 44 → Follows text end depth (Name (end + c + 1) (depth - c) (c + 1))
+      pub shut_comma : (depth ≡ c → ⊥) → get_or text (end + c) 0 ≡ 44 → Follows text end depth (Ok (Name (end + c + 1) (depth - c) (c + 1)))
       shut_comma d k =
           let f = x.few in
           let p : 0 < depth - c = pos d f in

@@ -8,26 +8,25 @@ use native.Mathlib.Omega.{arith}
 use lib.ListN.{length, get_or, take, replicate, length-replicate, get_or-replicate}
 use lib.Seq.{get_or-take, ext_get_or, length-take-le}
 use lib.Dec.{ltb}
-use borrow.Author.Tests.{lt-ltb, le-ltb, ltb-false}
+use borrow.Author.Tests.{lt-ltb, le-ltb, ltb-true, ltb-false}
 use Rattle.model.specs.Answers.{Outcome, result, refused, refused_by, outcome, lent_after}
 use Rattle.model.specs.Names.{how_many_names, names_then}
 use Rattle.model.specs.Term.{Scan, passes, breaks_at}
 use Rattle.model.specs.Tree.{WellFormed}
 use Rattle.model.specs.TermOperations.{entries_of, bytes_of, fits_in, read_fits, read_named, symbol_ground, write_fits, write_formed, write_named, read_term_outcome, write_term_outcome, read_term_list, write_term_list}
-use Rattle.std.specs.Prelude.{Result, Ok, Err}
 use Rattle.model.specs.declared.Refusal.{Refusal}
-use Rattle.model.proofs.Choice.{no_fault, fault_refused, is_false}
+use Rattle.std.specs.List.{position, position_or_len}
+use Rattle.std.proofs.lemmas.List.Sums.{passes_at_first, fails_before_first}
+use Rattle.model.proofs.Choice.{no_fault, fault_refused, is_false, not_both}
 use Rattle.tree.specs.Reading.{Decides}
 use Rattle.tree.proofs.Laws.{list_refused, list_taken}
 use Rattle.chains.specs.First.{first_with}
-use Rattle.chains.proofs.First.{first_is, first_none, apart}
+use Rattle.chains.proofs.First.{first_is, first_at, none_first, first_none, apart}
 use Rattle.scan.specs.TextState.{place_of}
 use Rattle.term.specs.Emit.{entries_text}
 use Rattle.term.specs.Pass.{unlisted_at, Cleared, pass_then, Passed}
 use Rattle.term.specs.Written.{Front, EntriesNamed, Gave, ReadTerm, WriteTerm}
 use Rattle.names.specs.NamesIndex.{NamesAnswer}
-use Rattle.term.specs.declared.Pass.{Pass}
-use Rattle.term.specs.declared.Pass.TheVariants.{Breaks, Unlisted, Taken}
 use Rattle.term.proofs.EntriesText.{entries_text_lem}
 
 -- an answer with its list
@@ -53,11 +52,11 @@ pub fits_well : (needed room : ℕ) → needed ≤ 4096 → needed ≤ room → 
 fits_well needed room h l = rw (le-ltb 4096 needed h, le-ltb room needed l)
 
 -- 19 before 20
-pub unlisted_breaks : (s : Scan) (p place : ℕ) → Some p ≡ place_of s → Breaks p ≡ unlisted_at s place
+pub unlisted_breaks : (s : Scan) (p place : ℕ) → Some p ≡ place_of s → refused 19 p ≡ unlisted_at s place
 unlisted_breaks passes p place e = apart p e
-unlisted_breaks (breaks_at q) p place e = let z : p ≡ q = cc in ap Breaks z
+unlisted_breaks (breaks_at q) p place e = let z : p ≡ q = cc in ap (refused 19) z
 
-pub unlisted_whole : (s : Scan) (place : ℕ) → None ≡ place_of s → Unlisted place ≡ unlisted_at s place
+pub unlisted_whole : (s : Scan) (place : ℕ) → None ≡ place_of s → refused 20 place ≡ unlisted_at s place
 unlisted_whole passes place e = refl
 unlisted_whole (breaks_at q) place e = apart q (sym e)
 
@@ -65,34 +64,31 @@ pub cleared : Cleared (replicate 4096 0)
 cleared = record { long = length-replicate {A = ℕ} 4096 0; none = λ k l. get_or-replicate {A = ℕ} 4096 k 0 0 l }
 
 -- 19 and 20, and what follows them
-module _ {names text entries : List ℕ} {r : Pass} (x : Passed names text entries r) (room : ℕ) (short : length text ≤ 65536) where
+module _ {names text entries : List ℕ} {r : Result ℕ Refusal} (x : Passed names text entries r) (room : ℕ) (short : length text ≤ 65536) where
   told : pass_then r (read_fits 4096 names text room) ≡ read_named 4096 names text room
   told = rw (le-ltb 65536 (length text) short) (x.decided (read_fits 4096 names text room))
 
-  pub told_breaks : (p : ℕ) → r ≡ Breaks p → refused 19 p ≡ read_named 4096 names text room
-  told_breaks p e = rw e at told
+  pub told_refused : (e : Refusal) → r ≡ Err e → refused_by e ≡ read_named 4096 names text room
+  told_refused e h = rw h at told
 
-  pub told_unlisted : (p : ℕ) → r ≡ Unlisted p → refused 20 p ≡ read_named 4096 names text room
-  told_unlisted p e = rw e at told
-
-  fits_by : (m : ℕ) → r ≡ Taken m → fits_in 4096 m room ≡ read_named 4096 names text room
+  fits_by : (m : ℕ) → r ≡ Ok m → fits_in 4096 m room ≡ read_named 4096 names text room
   fits_by m e = ap (λ (k : ℕ). fits_in 4096 k room) (x.counted m e) ∙ rw e at told
 
   -- what is kept are the entries of the tree
-  kept_are : (m : ℕ) → r ≡ Taken m → m ≤ 4096 → take m entries ≡ entries_of names text
+  kept_are : (m : ℕ) → r ≡ Ok m → m ≤ 4096 → take m entries ≡ entries_of names text
   kept_are m e l =
       let h = x.held m e in
       let n = length-take-le m entries (let w = h.long in omega arith) in
       ext_get_or 0 (take m entries) (entries_of names text) (n ∙ x.counted m e) (λ i g. get_or-take m entries i 0 (omega arith) ∙ h.same i (omega arith))
 
-  same_list_lem : (m : ℕ) → r ≡ Taken m → (old : List ℕ) → lent_after (fits_in 4096 m room) (take m entries) old ≡ lent_after (fits_in 4096 m room) (entries_of names text) old
+  same_list_lem : (m : ℕ) → r ≡ Ok m → (old : List ℕ) → lent_after (fits_in 4096 m room) (take m entries) old ≡ lent_after (fits_in 4096 m room) (entries_of names text) old
   same_list_lem m e old = go (ltb 4096 m) refl
     where
       go : (t : Bool) → ltb 4096 m ≡ t → lent_after (fits_in 4096 m room) (take m entries) old ≡ lent_after (fits_in 4096 m room) (entries_of names text) old
       go true g = rw g
       go false g = ap (λ (y : List ℕ). lent_after (fits_in 4096 m room) y old) (kept_are m e (ltb-false 4096 m g))
 
-  pub told_gave : (m : ℕ) → r ≡ Taken m → {old new : List ℕ} {a : Result ℕ Refusal} → Gave (fits_in 4096 m room) (take m entries) old new a → Gave (read_named 4096 names text room) (entries_of names text) old new a
+  pub told_gave : (m : ℕ) → r ≡ Ok m → {old new : List ℕ} {a : Result ℕ Refusal} → Gave (fits_in 4096 m room) (take m entries) old new a → Gave (read_named 4096 names text room) (entries_of names text) old new a
   told_gave m e {old} g = gave_same (fits_by m e) (record { answer = g.answer; list = g.list ∙ same_list_lem m e old })
 
 -- 18
@@ -131,6 +127,18 @@ module _ (names tree : List ℕ) (room needed : ℕ) (w : WellFormed tree) (e : 
 
 pub text_front : (names tree old new : List ℕ) → WellFormed tree → Front old new (entries_text names 0 tree) → Front old new (bytes_of names tree)
 text_front names tree old new w f = rw (sym (entries_text_lem names tree w)) f
+
+-- the first place that passes a test
+pub position_first : (q : ℕ → Bool) (xs : List ℕ) → position q xs ≡ first_with (λ i. q (get_or xs i 0)) (length xs)
+position_first q xs = go (ltb (position_or_len q xs) (length xs)) refl
+  where
+    go : (t : Bool) → ltb (position_or_len q xs) (length xs) ≡ t → position q xs ≡ first_with (λ i. q (get_or xs i 0)) (length xs)
+    go true e =
+        let l = ltb-true (position_or_len q xs) (length xs) e in
+        rw e (sym (first_at (λ i. q (get_or xs i 0)) (length xs) (position_or_len q xs) l (passes_at_first q xs 0 l) (λ k m t. not_both (q (get_or xs k 0)) t (fails_before_first q xs k 0 m))))
+    go false e =
+        let l = ltb-false (position_or_len q xs) (length xs) e in
+        rw e (sym (none_first (λ i. q (get_or xs i 0)) (length xs) (λ k m t. not_both (q (get_or xs k 0)) t (fails_before_first q xs k 0 (omega arith)))))
 
 -- 23
 module _ (names tree : List ℕ) (n room : ℕ) (c : n ≡ how_many_names names) where

@@ -1,15 +1,14 @@
 -- What the parts of reading a term in one pass promise. Assumes nothing: these are definitions.
-use Rattle.std.specs.Prelude.{ℕ, ◌+◌, ◌<◌, ◌≤◌, ◌≡◌, false, not, List, ◌∷◌, ◌++◌, length, get_or, drop, replicate, eqb, if◌then◌else◌}
-use Rattle.model.specs.Answers.{Outcome, refused}
+use Rattle.std.specs.Prelude.{ℕ, ◌+◌, ◌<◌, ◌≤◌, ◌≡◌, false, not, List, ◌∷◌, ◌++◌, length, get_or, drop, replicate, eqb, if◌then◌else◌, Result, Ok, Err}
+use Rattle.model.specs.Answers.{Outcome, refused, refused_by}
+use Rattle.model.specs.declared.Refusal.{Refusal}
 use Rattle.model.specs.Choice.{first_faulty}
 use Rattle.model.specs.Names.{is_name_byte}
 use Rattle.model.specs.Term.{Scan, passes, breaks_at, due, in_name, scan, term_then}
 use Rattle.model.specs.TermOperations.{entries_of, name_ground}
 use Rattle.term.specs.Emit.{node_entries, emitted}
 use Rattle.term.specs.declared.After.{After}
-use Rattle.term.specs.declared.After.TheVariants.{Name, Ends, Breaks as AfterBreaks}
-use Rattle.term.specs.declared.Pass.{Pass}
-use Rattle.term.specs.declared.Pass.TheVariants.{Breaks, Unlisted, Taken}
+use Rattle.term.specs.declared.After.TheVariants.{Name, Ends}
 
 -- c bytes `)` stand at a place, no more than brackets are open, and one more could not be counted
 pub record Closing (text : List ℕ) (at depth c : ℕ) : Type 0 where
@@ -34,16 +33,22 @@ pub record Onward (text : List ℕ) (end depth i d bars : ℕ) : Type 0 where
   pub shallow : d + end ≤ depth + i
   pub scans : (m : ℕ) → scan (in_name depth m) end (drop end text) ≡ scan (due d) i (drop i text)
 
+-- the text stops being a term: a refusal 19, and where
+pub record Breaks (text : List ℕ) (end depth : ℕ) (e : Refusal) : Type 0 where
+  pub place : ℕ
+  pub refuses : refused_by e ≡ refused 19 place
+  pub scans : (m : ℕ) → scan (in_name depth m) end (drop end text) ≡ breaks_at place
+
 -- what follows a name that ends at `end`, so many brackets being open
-pub record Follows (text : List ℕ) (end depth : ℕ) (r : After) : Type 0 where
-  pub name : (i d bars : ℕ) → r ≡ Name i d bars → Onward text end depth i d bars
-  pub ends : (bars : ℕ) → r ≡ Ends bars → Barred text end (length text) bars × ((m : ℕ) → scan (in_name depth m) end (drop end text) ≡ passes)
-  pub breaks : (p : ℕ) → r ≡ AfterBreaks p → (m : ℕ) → scan (in_name depth m) end (drop end text) ≡ breaks_at p
+pub record Follows (text : List ℕ) (end depth : ℕ) (r : Result After Refusal) : Type 0 where
+  pub name : (i d bars : ℕ) → r ≡ Ok (Name i d bars) → Onward text end depth i d bars
+  pub ends : (bars : ℕ) → r ≡ Ok (Ends bars) → Barred text end (length text) bars × ((m : ℕ) → scan (in_name depth m) end (drop end text) ≡ passes)
+  pub breaks : (e : Refusal) → r ≡ Err e → Breaks text end depth e
 
 -- 19 comes before 20
-abbrev pub unlisted_at : Scan → (place : ℕ) → Pass
-unlisted_at passes place = Unlisted place
-unlisted_at (breaks_at p) place = Breaks p
+abbrev pub unlisted_at : Scan → (place : ℕ) → Outcome
+unlisted_at passes place = refused 20 place
+unlisted_at (breaks_at p) place = refused 19 p
 
 -- a symbol is put at a place, where the list has it
 pub record SymbolPut (old new : List ℕ) (at symbol : ℕ) : Type 0 where
@@ -61,13 +66,12 @@ pub record Holds (entries all : List ℕ) : Type 0 where
   pub same : (k : ℕ) → k < 4096 → get_or entries k 0 ≡ get_or all k 0
 
 -- refusal 19 or 20, or what follows where there is neither
-abbrev pub pass_then : Pass → Outcome → Outcome
-pass_then (Breaks p) otherwise = refused 19 p
-pass_then (Unlisted p) otherwise = refused 20 p
-pass_then (Taken m) otherwise = otherwise
+abbrev pub pass_then : Result ℕ Refusal → Outcome → Outcome
+pass_then (Err e) otherwise = refused_by e
+pass_then (Ok m) otherwise = otherwise
 
 -- the answer decides 19 and 20; where there is neither, the entries of the tree are counted, and kept
-pub record Passed (names text entries : List ℕ) (r : Pass) : Type 0 where
+pub record Passed (names text entries : List ℕ) (r : Result ℕ Refusal) : Type 0 where
   pub decided : (o : Outcome) → pass_then r o ≡ term_then text (first_faulty (length text) (name_ground names text) o)
-  pub counted : (m : ℕ) → r ≡ Taken m → m ≡ length (entries_of names text)
-  pub held : (m : ℕ) → r ≡ Taken m → Holds entries (entries_of names text)
+  pub counted : (m : ℕ) → r ≡ Ok m → m ≡ length (entries_of names text)
+  pub held : (m : ℕ) → r ≡ Ok m → Holds entries (entries_of names text)

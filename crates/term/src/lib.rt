@@ -2,6 +2,7 @@
 #![tactic(auto)]
 
 ghost use Rattle.std.specs.Prelude.{◌≡◌, false, ◌+◌, ◌-◌, ◌<◌, ◌≤◌, length, get_or, take, ltb, eqb};
+ghost use Rattle.model.specs.Answers.{refused_by};
 ghost use Rattle.model.specs.Names.{is_name_byte, how_many_names};
 ghost use Rattle.model.specs.Tree.{WellFormed};
 ghost use Rattle.model.specs.TermOperations.{fits_in, read_named, write_fits, write_formed, write_named};
@@ -12,38 +13,24 @@ ghost use Rattle.term.specs.Emit.{entry_text, closing, mark_after, entries_text}
 ghost use Rattle.term.specs.Written.{Put, Copied, Front, EntriesNamed, Gave, ReadBy, WriteBy, ReadTerm, WriteTerm};
 ghost use Rattle.term.specs.Pass.{Closing, Follows, unlisted_at, SymbolPut, Cleared, Passed};
 
-use model::{Answer, Kind, refuse};
+use model::{Answer, Kind, Refusal, refuse};
 use names::{check_names, find_name, list_seed, name_at, stretch_at};
 use scan::scan_text;
 use tree::check_tree;
 use words::{put_word, word_at};
 
-// What follows a name: another name is due at a place, with so many brackets open, after so many bars; the text ends, after so many bars; or it
-// stops being a term at a place.
+// What follows a name: another name is due at a place, with so many brackets open, after so many bars; or the text ends, after so many bars.
 #[derive(Clone, Copy)]
 pub enum After {
     Name(usize, usize, usize),
     Ends(usize),
-    Breaks(usize),
-}
-
-// What reading a text finds: where it stops being a term; that it is one, and where the first name that is not listed begins; or how many entries
-// its tree has.
-#[derive(Clone, Copy)]
-pub enum Pass {
-    Breaks(usize),
-    Unlisted(usize),
-    Taken(usize),
 }
 
 // Whether the byte at a place is `(`.
 fn opens(text: &[u8], at: usize) -> bool
     ensures { result ≡ eqb (get_or text.now at 0) 40 }
 {
-    if at < text.len() {
-        return text[at] == b'(';
-    }
-    false
+    at < text.len() && text[at] == b'('
 }
 
 // How many `)` stand at a place, no more than brackets are open.
@@ -51,52 +38,47 @@ fn closes(text: &[u8], at: usize, depth: usize) -> usize
     requires { at ≤ length text.now }
     ensures { Closing text.now at depth result }
 {
-    let mut c: usize = 0;
-    while c < depth {
-        if text.len() <= at + c {
+    for c in 0..depth {
+        if text.len() <= at + c || text[at + c] != b')' {
             return c;
         }
-        if text[at + c] != b')' {
-            return c;
-        }
-        c += 1;
     }
-    c
+    depth
 }
 
-// What follows the name that ends at a place.
-fn after_name(text: &[u8], end: usize, depth: usize) -> After
+// What follows the name that ends at a place, or refusal 19 where the text stops being a term.
+fn after_name(text: &[u8], end: usize, depth: usize) -> Result<After, Refusal>
     requires { (end ≤ length text.now) × (is_name_byte (get_or text.now end 0) ≡ false) × (depth ≤ 65536) }
     ensures { Follows text.now end depth result }
 {
     if opens(text, end) {
-        return After::Name(end + 1, depth + 1, 0);
+        return Ok(After::Name(end + 1, depth + 1, 0));
     }
     let c = closes(text, end, depth);
     let i = end + c;
     if i == text.len() {
         if depth == c {
-            return After::Ends(c + 1);
+            return Ok(After::Ends(c + 1));
         }
-        return After::Breaks(i);
+        return Err(refuse(Kind::NotATerm, i as u64));
     }
     if depth == c {
-        return After::Breaks(i);
+        return Err(refuse(Kind::NotATerm, i as u64));
     }
     if text[i] == b',' {
-        return After::Name(i + 1, depth - c, c + 1);
+        return Ok(After::Name(i + 1, depth - c, c + 1));
     }
-    After::Breaks(i)
+    Err(refuse(Kind::NotATerm, i as u64))
 }
 
 // What stands at a place is not listed: 20 where the whole text is a term, and else 19 where it stops being one.
-fn unlisted(text: &[u8], place: usize) -> Pass
+fn unlisted(text: &[u8], place: usize) -> Refusal
     requires { length text.now ≤ 65536 }
-    ensures { result ≡ unlisted_at (scanned text.now) place }
+    ensures { refused_by result ≡ unlisted_at (scanned text.now) place }
 {
     match scan_text(text) {
-        Some(p) => Pass::Breaks(p),
-        None => Pass::Unlisted(place),
+        Some(p) => refuse(Kind::NotATerm, p as u64),
+        None => refuse(Kind::UnlistedName, place as u64),
     }
 }
 
@@ -110,8 +92,8 @@ fn put_symbol(entries: &mut [u8; 4096], at: usize, symbol: u8)
     }
 }
 
-// Reads the text, and keeps the entries of its tree, as many as there is room for. The bars are there: the array is cleared. What is looked up is
-// the stretch of bytes from `-` to `z`: if it is listed it is a name, and if not the scan decides.
+// Reads the text, and keeps the entries of its tree, as many as there is room for: gives how many it has, or refusal 19 or 20. The bars are there:
+// the array is cleared. What is looked up is the stretch of bytes from `-` to `z`: if it is listed it is a name, and if not the scan decides.
 fn read_text(
     names: &[u8],
     seed: u64,
@@ -121,37 +103,28 @@ fn read_text(
     n: usize,
     text: &[u8],
     entries: &mut [u8; 4096],
-) -> Pass
+) -> Result<usize, Refusal>
     requires names_indexed { NamesIndexed seed names.now starts.now heads.now next.now n }
     requires n_value { n ≡ how_many_names names.now }
     requires text_len_bound { (length text.now ≤ 65536) × Cleared entries.old }
     ensures { Passed names.now text.now entries.new result }
 {
-    let mut at: usize = 0;
-    let mut depth: usize = 0;
-    let mut i: usize = 0;
+    let mut at = 0;
+    let mut depth = 0;
+    let mut i = 0;
     loop {
         let stretch = stretch_at(text, i, seed);
         let end = stretch.end;
-        match find_name(names, starts, heads, next, n, stretch.bucket, &text[i..end]) {
-            None => {
-                return unlisted(text, i);
-            }
-            Some(k) => {
-                put_symbol(&mut *entries, at, (k + 1) as u8);
-                match after_name(text, end, depth) {
-                    After::Breaks(place) => {
-                        return Pass::Breaks(place);
-                    }
-                    After::Ends(bars) => {
-                        return Pass::Taken(at + 1 + bars);
-                    }
-                    After::Name(place, open, bars) => {
-                        at = at + 1 + bars;
-                        depth = open;
-                        i = place;
-                    }
-                }
+        let Some(k) = find_name(names, starts, heads, next, n, stretch.bucket, &text[i..end]) else {
+            return Err(unlisted(text, i));
+        };
+        put_symbol(&mut *entries, at, (k + 1) as u8);
+        match after_name(text, end, depth)? {
+            After::Ends(bars) => return Ok(at + 1 + bars),
+            After::Name(place, open, bars) => {
+                at += 1 + bars;
+                depth = open;
+                i = place;
             }
         }
     }
@@ -162,10 +135,8 @@ fn put_front(entries: &[u8; 4096], count: usize, tree: &mut [u16])
     requires { (length entries.now ≡ 4096) × (count ≤ 4096) × (count ≤ length tree.old) }
     ensures { Front tree.old tree.new (take count entries.now) }
 {
-    let mut i: usize = 0;
-    while i < count {
-        tree[i] = u16::from(entries[i]);
-        i += 1;
+    for (i, e) in entries[..count].iter().enumerate() {
+        tree[i] = u16::from(*e);
     }
 }
 
@@ -203,11 +174,8 @@ fn read_named(
         return Err(refuse(Kind::TextTooLong, 0));
     }
     let mut entries = [0u8; 4096];
-    match read_text(names, seed, starts, heads, next, n, text, &mut entries) {
-        Pass::Breaks(place) => Err(refuse(Kind::NotATerm, place as u64)),
-        Pass::Unlisted(place) => Err(refuse(Kind::UnlistedName, place as u64)),
-        Pass::Taken(needed) => put_tree(&entries, needed, tree),
-    }
+    let needed = read_text(names, seed, starts, heads, next, n, text, &mut entries)?;
+    put_tree(&entries, needed, tree)
 }
 
 // Reads a term: gives the count of the tree's entries, which then stand at the front of the list.
@@ -226,46 +194,28 @@ pub fn read_term(names: &[u8], text: &[u8], tree: &mut [u16]) -> Answer
 fn first_unnamed(tree: &[u16], n: usize) -> Option<usize>
     ensures { result ≡ first_with (λ i. ltb n (get_or tree.now i 0)) (length tree.now) }
 {
-    let mut i: usize = 0;
-    while i < tree.len() {
-        if n < usize::from(tree[i]) {
-            return Some(i);
-        }
-        i += 1;
-    }
-    None
+    tree.iter().position(|e| n < usize::from(*e))
 }
 
 // The separator before a name that follows this entry: `,` after a bar, `(` after a symbol.
 fn mark_after(e: u16) -> u8
     ensures { result ≡ mark_after e }
 {
-    if e == 0 {
-        return b',';
-    }
-    b'('
+    if e == 0 { b',' } else { b'(' }
 }
 
 // The line of a symbol's name, the first being line 0; 0 for a bar too.
 fn line_before(e: u16) -> usize
     ensures { result ≡ e - 1 }
 {
-    if e == 0 {
-        return 0;
-    }
-    usize::from(e) - 1
+    usize::from(e).saturating_sub(1)
 }
 
 // 1 for a bar after a bar: it gives `)`.
 fn closing_length(before: u16, e: u16) -> usize
     ensures { result ≡ closing (mark_after before) e }
 {
-    if e == 0 {
-        if before == 0 {
-            return 1;
-        }
-    }
-    0
+    if e == 0 && before == 0 { 1 } else { 0 }
 }
 
 // How many bytes the first entry gives.
@@ -296,14 +246,12 @@ fn text_length(names: &[u8], starts: &[u16; 256], n: usize, tree: &[u16]) -> usi
     requires entries_named { EntriesNamed n tree.now }
     ensures { result ≡ length (entries_text names.now 0 tree.now) }
 {
-    if tree.len() == 0 {
+    if tree.is_empty() {
         return 0;
     }
     let mut sum = first_length(names, starts, n, tree[0]);
-    let mut i: usize = 1;
-    while i < tree.len() {
+    for i in 1..tree.len() {
         sum += entry_length(names, starts, n, tree[i - 1], tree[i]);
-        i += 1;
     }
     sum
 }
@@ -313,10 +261,8 @@ fn put_few(text: &mut [u8], at: usize, bytes: &[u8])
     requires { at + length bytes.now ≤ length text.old }
     ensures { Copied (length bytes.now) text.old text.new at bytes.now }
 {
-    let mut i: usize = 0;
-    while i < bytes.len() {
-        text[at + i] = bytes[i];
-        i += 1;
+    for (i, b) in bytes.iter().enumerate() {
+        text[at + i] = *b;
     }
 }
 
@@ -336,10 +282,8 @@ fn put_long(text: &mut [u8], at: usize, bytes: &[u8])
     ensures { Copied (length bytes.now) text.old text.new at bytes.now }
 {
     let last = bytes.len() - 8;
-    let mut i: usize = 0;
-    while i < last {
-        put_word::<8>(&mut *text, at + i, word_at::<8>(bytes, i));
-        i += 8;
+    for k in 0..last.div_ceil(8) {
+        put_word::<8>(&mut *text, at + 8 * k, word_at::<8>(bytes, 8 * k));
     }
     put_word::<8>(text, at + last, word_at::<8>(bytes, last));
 }
@@ -352,13 +296,11 @@ pub fn put_bytes(text: &mut [u8], at: usize, bytes: &[u8]) -> usize
     let after = at + bytes.len();
     if 8 <= bytes.len() {
         put_long(text, at, bytes);
-        return after;
-    }
-    if 4 <= bytes.len() {
+    } else if 4 <= bytes.len() {
         put_fours(text, at, bytes);
-        return after;
+    } else {
+        put_few(text, at, bytes);
     }
-    put_few(text, at, bytes);
     after
 }
 
@@ -399,14 +341,11 @@ fn put_text(names: &[u8], starts: &[u16; 256], n: usize, tree: &[u16], text: &mu
     requires tree_in_bounds { length (entries_text names.now 0 tree.now) ≤ length text.old }
     ensures { Front text.old text.new (entries_text names.now 0 tree.now) }
 {
-    let mut at: usize = 0;
-    let mut mark: u8 = 0;
-    let mut i: usize = 0;
-    while i < tree.len() {
-        let e = tree[i];
-        at = put_entry_text(names, starts, n, mark, e, &mut *text, at);
-        mark = mark_after(e);
-        i += 1;
+    let mut at = 0;
+    let mut mark = 0;
+    for e in tree {
+        at = put_entry_text(names, starts, n, mark, *e, &mut *text, at);
+        mark = mark_after(*e);
     }
 }
 

@@ -72,7 +72,7 @@ fn find_row(
 }
 
 // The child in state a, where w is the product of its count and those of the children after it, and h is what is left of the value for them.
-fn child_in(a: usize, counts: &[u64], w: u64, h: u64) -> Child
+fn child_at(a: usize, counts: &[u64], w: u64, h: u64) -> Child
     requires { Shared counts.now a w }
     ensures { result ≡ child_of counts.now a w h }
 {
@@ -103,7 +103,7 @@ fn tree_length(
     let mut h = row.rest;
     let mut n: usize = 2;
     for a in rows::args_in(pool, row.word) {
-        let child = child_in(usize::from(*a), counts, w, h);
+        let child = child_at(usize::from(*a), counts, w, h);
         w = child.weight;
         h = child.rest;
         n += tree_length(pool, words, first, counts, sums, child.state, child.value);
@@ -112,6 +112,7 @@ fn tree_length(
 }
 
 // Writes the tree of a value in state q at the front of `out`, and gives how many entries it has.
+// (The walk is `tree_length`'s. As one function it would need a trait for where the entries go and two types with it: more than the loop it saves.)
 fn write_tree(
     pool: &[u16],
     words: &[u64],
@@ -132,7 +133,7 @@ fn write_tree(
     out[0] = rows::symbol_in(row.word);
     let mut at: usize = 1;
     for a in rows::args_in(pool, row.word) {
-        let child = child_in(usize::from(*a), counts, w, h);
+        let child = child_at(usize::from(*a), counts, w, h);
         w = child.weight;
         h = child.rest;
         at += write_tree(

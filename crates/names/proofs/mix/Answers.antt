@@ -1,7 +1,6 @@
-use mathlib.Core.Path.{refl}
 use Rattle.names.specs.NamesIndex.{mixed}
 use Rattle.names.proofs.mix.Goals as goal
 
 pub returns : goal.returns
 unfolding mixed
-returns c = refl
+returns c = c.mixed.ensures

@@ -1,4 +1,4 @@
-use Rattle.std.proofs.Common.{ℕ, ◌≡◌, ◌*◌, ◌+◌, ◌≤◌, length, drop, true, false, sym, ◌∙◌, arith, ◌/◌, ◌-◌, ap₂, length-drop}
+use Rattle.std.proofs.Common.{◌≡◌, ◌*◌, ◌+◌, length, true, false, sym, ◌∙◌, arith, ◌/◌, ap₂}
 use Rattle.std.proofs.lemmas.List.{take_rest}
 use Rattle.model.specs.Names.{alike, same_name}
 use Rattle.model.proofs.Lists.{same_length}

@@ -4,16 +4,16 @@ use Rattle.rank.proofs.Folding.{found_inside, node_forms, node_reaches, node_stu
 use Rattle.rank.proofs.close.Goals as goal
 
 pub offset_bounds-words-k : goal.offset_bounds-words-k
-offset_bounds-words-k c = omega (arith, found_inside c.args.pool.now c.args.words.now _ _ _ (sym c.find_row.ensures ∙ c.in_ok-k.was), c.requires.held.many)
+offset_bounds-words-k c = omega (arith, found_inside c.args.pool.now c.args.words.now _ _ _ (sym c.find.ensures ∙ c.in_ok-k.was), c.requires.held.many)
 
 pub bounds-words-k : goal.bounds-words-k
-bounds-words-k c = found_inside c.args.pool.now c.args.words.now _ _ _ (sym c.find_row.ensures ∙ c.in_ok-k.was)
+bounds-words-k c = found_inside c.args.pool.now c.args.words.now _ _ _ (sym c.find.ensures ∙ c.in_ok-k.was)
 
 pub value_in-requires : goal.value_in-requires
-value_in-requires c = node_forms c.args.pool.now c.args.words.now _ _ _ (sym c.find_row.ensures ∙ c.in_ok-k.was) c.args.counts.now c.args.sums.now c.args.values.now c.requires.closable _ c.target_in-q.ensures
+value_in-requires c = node_forms c.args.pool.now c.args.words.now _ _ _ (sym c.find.ensures ∙ c.in_ok-k.was) c.args.counts.now c.args.sums.now c.args.values.now c.requires.closable _ c.target_in-q.ensures
 
 pub returns : goal.returns
-returns c = node_reaches c.args.pool.now c.args.words.now _ _ _ (sym c.find_row.ensures ∙ c.in_ok-k.was) c.args.counts.now c.args.sums.now c.args.values.now _ _ c.target_in-q.ensures c.value_in.ensures
+returns c = node_reaches c.args.pool.now c.args.words.now _ _ _ (sym c.find.ensures ∙ c.in_ok-k.was) c.args.counts.now c.args.sums.now c.args.values.now _ _ c.target_in-q.ensures c.value_in.ensures
 
 pub returns-in_err-k : goal.returns-in_err-k
-returns-in_err-k c = rw c.from_residual.ensures (node_stuck _ _ _ _ _ _ (sym c.find_row.ensures ∙ c.in_err-k.was))
+returns-in_err-k c = rw c.from_residual.ensures (node_stuck _ _ _ _ _ _ (sym c.find.ensures ∙ c.in_err-k.was))

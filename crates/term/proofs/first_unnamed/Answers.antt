@@ -1,23 +1,11 @@
-use Prim.Native.Nat.{ℕ}
-use native.Mathlib.Omega.{arith}
-use mathlib.Core.Path.{sym}
-use mathlib.Core.Bool.{Bool}
-use mathlib.Core.List.{List}
-use lib.ListN.{get_or}
-use lib.Dec.{ltb}
-use borrow.Author.Tests.{lt-ltb, le-ltb}
-use Rattle.chains.proofs.First.{first_at, none_first, first_none, first_more}
+use Rattle.std.proofs.Common.{◌∙◌, ltb, rules, tests}
+use Rattle.std.proofs.lemmas.Iterator.{YieldsList-from_slice}
+use Rattle.std.proofs.lemmas.Iterator.Search.{position_from_yields_List}
+use Rattle.term.proofs.Outcomes.{position_first}
 use Rattle.term.proofs.first_unnamed.Goals as goal
 
-abbrev above : List ℕ → ℕ → ℕ → Bool
-above tree n k = ltb n (get_or tree k 0)
-
-pub loop-i-init : goal.loop-i-init
-loop-i-init c = (omega arith, none_first (above c.args.tree.now c.args.n) 0 (λ k l. absurd (omega arith)))
-
-pub returns-then-n-from : goal.returns-then-n-from
-returns-then-n-from c = let p = above c.args.tree.now c.args.n in
-    sym (first_at p _ c.loop-i.i c.loop-i-test.true (lt-ltb c.args.n (get_or c.args.tree.now c.loop-i.i 0) (omega (arith, c.from.ensures, c.if-n-from.true))) (first_none p c.loop-i.i c.loop-i.invariant.1))
-
-pub loop-i-preserved : goal.loop-i-preserved
-loop-i-preserved c = (omega arith, first_more (above c.args.tree.now c.args.n) c.loop-i.i c.loop-i.invariant.1 (le-ltb c.args.n (get_or c.args.tree.now c.loop-i.i 0) (omega (arith, c.from.ensures, c.if-n-from.false))))
+pub returns : goal.returns
+returns c =
+    let tree = c.args.tree.now in
+    position_from_yields_List (ltb c.args.n) _ _ _ c.position.ensures.ran (YieldsList-from_slice tree cc) (λ x r q k. search (rules, tests))
+    ∙ position_first (ltb c.args.n) tree

@@ -8,4 +8,4 @@ fits : {n count m : ℕ} → n ≡ m → count ≤ m → count ≤ n
 fits e l = omega arith
 
 pub loop-i-preserved : goal.loop-i-preserved
-loop-i-preserved c = (omega arith, rw c.from.ensures (front_next _ _ _ (fits c.requires.0 c.requires.1) c.requires.2 _ _ c.loop-i.invariant.1 c.loop-i-test.true))
+loop-i-preserved c = rw c.from.ensures (front_next _ _ _ (fits c.requires.0 c.requires.1) c.requires.2 _ _ c.loop-i.invariant c.loop-i-test.true)

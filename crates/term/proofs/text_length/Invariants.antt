@@ -1,11 +1,8 @@
-use Prim.Native.Nat.{◌-◌, ◌≤◌}
-use lib.ListN.{length, get_or}
+use Prim.Native.Nat.{◌-◌}
+use lib.ListN.{get_or}
 use Rattle.term.specs.Emit.{mark_after}
 use Rattle.term.proofs.EntryText.{Summed}
 use Rattle.term.proofs.text_length.Given as goal
 
 abbrev pub invariant-loop-i : goal.invariant-loop-i
-invariant-loop-i l = (1 ≤ l.i) × Summed l.names l.tree l.sum (mark_after (get_or l.tree (l.i - 1) 0)) l.i
-
-abbrev pub decreases-loop-i : goal.decreases-loop-i
-decreases-loop-i l = length l.tree - l.i
+invariant-loop-i l = Summed l.names l.tree l.sum (mark_after (get_or l.tree (l.i - 1) 0)) l.i
