@@ -12,6 +12,15 @@ ghost use Rattle.line.specs.Held.{with_digit, longest_line, Holds, Holding, Begi
 use model::{Answer, Kind, Refusal, refuse};
 use term::put_bytes;
 
+// What a program answers by: a table and a names list.
+#[derive(Clone, Copy)]
+pub struct Lists<'a> {
+    pub states: u64,
+    pub rows: &'a [u16],
+    pub accepting: &'a [u16],
+    pub names: &'a [u8],
+}
+
 // The most bytes that answer one line.
 const LONGEST_LINE: usize = 53249;
 
@@ -118,63 +127,6 @@ fn put_term(names: &[u8], tree: &[u16], out: &mut [u8]) -> usize
     }
 }
 
-// Puts the output line that answers a number; the tree is written into `tree`.
-fn answer_number(
-    states: u64,
-    rows: &[u16],
-    accepting: &[u16],
-    names: &[u8],
-    number: u64,
-    tree: &mut [u16],
-    out: &mut [u8],
-) -> usize
-    requires tree_len { length tree.old ≡ 4096 }
-    requires longest_line_in_bounds { longest_line ≤ length out.old }
-    ensures { Begins out.new (answer_number states rows.now accepting.now names.now number) result }
-{
-    match operations::write(states, rows, accepting, number, tree) {
-        Ok(count) => {
-            let n = count as usize;
-            put_term(names, &tree[..n], out)
-        }
-        Err(r) => put_refusal(r, out),
-    }
-}
-
-// Puts the output line of a tree's number.
-fn answer_tree(states: u64, rows: &[u16], accepting: &[u16], tree: &[u16], out: &mut [u8]) -> usize
-    requires { longest_line ≤ length out.old }
-    ensures { Begins out.new (printed (number_outcome states rows.now accepting.now tree.now) decimal) result }
-{
-    match operations::number(states, rows, accepting, tree) {
-        Ok(number) => put_number(number, out),
-        Err(r) => put_refusal(r, out),
-    }
-}
-
-// Puts the output line that answers a term; the tree is read into `tree`.
-fn answer_term(
-    states: u64,
-    rows: &[u16],
-    accepting: &[u16],
-    names: &[u8],
-    text: &[u8],
-    tree: &mut [u16],
-    out: &mut [u8],
-) -> usize
-    requires tree_len { length tree.old ≡ 4096 }
-    requires longest_line_in_bounds { longest_line ≤ length out.old }
-    ensures { Begins out.new (answer_term states rows.now accepting.now names.now text.now) result }
-{
-    match term::read_term(names, text, tree) {
-        Ok(count) => {
-            let n = count as usize;
-            answer_tree(states, rows, accepting, &tree[..n], out)
-        }
-        Err(r) => put_refusal(r, out),
-    }
-}
-
 // The number that the line is, if it is one.
 fn number_of(line: Line) -> Option<u64>
     ensures { result ≡ (if ltb 0 line.len then line.number else None) }
@@ -182,139 +134,148 @@ fn number_of(line: Line) -> Option<u64>
     if 0 < line.len { line.number } else { None }
 }
 
-// Puts the output line that answers an input line; `tree` is a list to work in.
-fn answer(
-    states: u64,
-    rows: &[u16],
-    accepting: &[u16],
-    names: &[u8],
-    line: Line,
-    text: &[u8],
-    tree: &mut [u16],
-    out: &mut [u8],
-) -> usize
-    requires holding { Holding line text.now }
-    requires tree_len { (length tree.old ≡ 4096) × (longest_line ≤ length out.old) }
-    ensures { (held : List ℕ) → Holds held line text.now
-        → Begins out.new (answer_to states rows.now accepting.now names.now held) result }
-{
-    let n = line.len;
-    if let Some(number) = number_of(line) {
-        return answer_number(states, rows, accepting, names, number, tree, out);
-    }
-    if 4096 < n {
-        return put_refusal(refuse(Kind::TextTooLong, 0), out);
-    }
-    answer_term(states, rows, accepting, names, &text[..n], tree, out)
-}
-
-// Feeds the bytes from a place on, up to the end of a line or of the bytes. Where a line has ended, puts the output line that answers
-// it; `tree` is a list to work in.
-fn feed_line(
-    states: u64,
-    rows: &[u16],
-    accepting: &[u16],
-    names: &[u8],
-    mut line: Line,
-    bytes: &[u8],
-    from: usize,
-    text: &mut [u8],
-    tree: &mut [u16],
-    out: &mut [u8],
-) -> Fed
-    requires holding { Holding line text.old }
-    requires from_in_bounds { (from < length bytes.now) × (length tree.old ≡ 4096) × (longest_line ≤ length out.old) }
-    ensures from_lt_next { (from < result.next) × (result.next ≤ length bytes.now) }
-    ensures by_index { (held : List ℕ) → Holds held line text.old
-        → Prints states rows.now accepting.now names.now held
-        (part bytes.now from result.next) result.line text.new out.new result.count }
-{
-    for i in from..bytes.len() {
-        let b = bytes[i];
-        if b == b'\n' {
-            let n = answer(states, rows, accepting, names, line, text, tree, out);
-            return Fed {
-                line: empty_line(),
-                next: i + 1,
-                count: n,
-            };
+impl Lists<'_> {
+    // Puts the output line that answers a number; the tree is written into `tree`.
+    fn answer_number(&self, number: u64, tree: &mut [u16], out: &mut [u8]) -> usize
+        requires tree_len { length tree.old ≡ 4096 }
+        requires longest_line_in_bounds { longest_line ≤ length out.old }
+        ensures { Begins out.new (answer_number self.now.states self.now.rows.now self.now.accepting.now self.now.names.now number) result }
+    {
+        match operations::write(self.states, self.rows, self.accepting, number, tree) {
+            Ok(count) => {
+                let n = count as usize;
+                put_term(self.names, &tree[..n], out)
+            }
+            Err(r) => put_refusal(r, out),
         }
-        line = feed(line, b, text);
     }
-    Fed {
-        line,
-        next: bytes.len(),
-        count: 0,
-    }
-}
 
-// Feeds the bytes from a place on, line after line, to the end of the bytes or until the list may have no room for one answer more; puts what is to
-// be printed, one answer after another.
-pub fn gather(
-    states: u64,
-    rows: &[u16],
-    accepting: &[u16],
-    names: &[u8],
-    mut line: Line,
-    bytes: &[u8],
-    from: usize,
-    text: &mut [u8],
-    out: &mut [u8],
-) -> Fed
-    requires holding { Holding line text.old }
-    requires from_in_bounds { (from < length bytes.now) × (longest_line ≤ length out.old) }
-    ensures from_lt_next { (from < result.next) × (result.next ≤ length bytes.now) }
-    ensures by_index { (held : List ℕ) → Holds held line text.old
-        → Prints states rows.now accepting.now names.now held
-        (part bytes.now from result.next) result.line text.new out.new result.count }
-{
-    let mut tree = [0u16; 4096];
-    let mut i = from;
-    let mut filled = 0;
-    while i < bytes.len() && LONGEST_LINE <= out.len() - filled {
-        let fed = feed_line(
-            states,
-            rows,
-            accepting,
-            names,
+    // Puts the output line of a tree's number.
+    fn answer_tree(&self, tree: &[u16], out: &mut [u8]) -> usize
+        requires { longest_line ≤ length out.old }
+        ensures { Begins out.new (printed (number_outcome self.now.states self.now.rows.now self.now.accepting.now tree.now) decimal) result }
+    {
+        match operations::number(self.states, self.rows, self.accepting, tree) {
+            Ok(number) => put_number(number, out),
+            Err(r) => put_refusal(r, out),
+        }
+    }
+
+    // Puts the output line that answers a term; the tree is read into `tree`.
+    fn answer_term(&self, text: &[u8], tree: &mut [u16], out: &mut [u8]) -> usize
+        requires tree_len { length tree.old ≡ 4096 }
+        requires longest_line_in_bounds { longest_line ≤ length out.old }
+        ensures { Begins out.new (answer_term self.now.states self.now.rows.now self.now.accepting.now self.now.names.now text.now) result }
+    {
+        match term::read_term(self.names, text, tree) {
+            Ok(count) => {
+                let n = count as usize;
+                self.answer_tree(&tree[..n], out)
+            }
+            Err(r) => put_refusal(r, out),
+        }
+    }
+
+    // Puts the output line that answers an input line; `tree` is a list to work in.
+    fn answer(&self, line: Line, text: &[u8], tree: &mut [u16], out: &mut [u8]) -> usize
+        requires holding { Holding line text.now }
+        requires tree_len { (length tree.old ≡ 4096) × (longest_line ≤ length out.old) }
+        ensures { (held : List ℕ) → Holds held line text.now
+            → Begins out.new (answer_to self.now.states self.now.rows.now self.now.accepting.now self.now.names.now held) result }
+    {
+        let n = line.len;
+        if let Some(number) = number_of(line) {
+            return self.answer_number(number, tree, out);
+        }
+        if 4096 < n {
+            return put_refusal(refuse(Kind::TextTooLong, 0), out);
+        }
+        self.answer_term(&text[..n], tree, out)
+    }
+
+    // Feeds the bytes from a place on, up to the end of a line or of the bytes. Where a line has ended, puts the output line that answers
+    // it; `tree` is a list to work in.
+    fn feed_line(
+        &self,
+        mut line: Line,
+        bytes: &[u8],
+        from: usize,
+        text: &mut [u8],
+        tree: &mut [u16],
+        out: &mut [u8],
+    ) -> Fed
+        requires holding { Holding line text.old }
+        requires from_in_bounds { (from < length bytes.now) × (length tree.old ≡ 4096) × (longest_line ≤ length out.old) }
+        ensures from_lt_next { (from < result.next) × (result.next ≤ length bytes.now) }
+        ensures by_index { (held : List ℕ) → Holds held line text.old
+            → Prints self.now.states self.now.rows.now self.now.accepting.now self.now.names.now held
+            (part bytes.now from result.next) result.line text.new out.new result.count }
+    {
+        for i in from..bytes.len() {
+            let b = bytes[i];
+            if b == b'\n' {
+                let n = self.answer(line, text, tree, out);
+                return Fed {
+                    line: empty_line(),
+                    next: i + 1,
+                    count: n,
+                };
+            }
+            line = feed(line, b, text);
+        }
+        Fed {
             line,
-            bytes,
-            i,
-            text,
-            &mut tree,
-            &mut out[filled..],
-        );
-        line = fed.line;
-        i = fed.next;
-        filled += fed.count;
+            next: bytes.len(),
+            count: 0,
+        }
     }
-    Fed {
-        line,
-        next: i,
-        count: filled,
-    }
-}
 
-// At the end of the input: puts the output line that answers a last line without byte 10, or nothing where that line is empty;
-// gives how many bytes are to be printed.
-pub fn last_line(
-    states: u64,
-    rows: &[u16],
-    accepting: &[u16],
-    names: &[u8],
-    line: Line,
-    text: &[u8],
-    out: &mut [u8],
-) -> usize
-    requires holding { Holding line text.now }
-    requires longest_line_in_bounds { longest_line ≤ length out.old }
-    ensures { (held : List ℕ) → Holds held line text.now
-        → Begins out.new (output_for states rows.now accepting.now names.now held) result }
-{
-    let n = line.len;
-    if n == 0 {
-        return 0;
+    // Feeds the bytes from a place on, line after line, to the end of the bytes or until the list may have no room for one answer more; puts what is to
+    // be printed, one answer after another.
+    pub fn gather(
+        &self,
+        mut line: Line,
+        bytes: &[u8],
+        from: usize,
+        text: &mut [u8],
+        out: &mut [u8],
+    ) -> Fed
+        requires holding { Holding line text.old }
+        requires from_in_bounds { (from < length bytes.now) × (longest_line ≤ length out.old) }
+        ensures from_lt_next { (from < result.next) × (result.next ≤ length bytes.now) }
+        ensures by_index { (held : List ℕ) → Holds held line text.old
+            → Prints self.now.states self.now.rows.now self.now.accepting.now self.now.names.now held
+            (part bytes.now from result.next) result.line text.new out.new result.count }
+    {
+        let mut tree = [0u16; 4096];
+        let mut i = from;
+        let mut filled = 0;
+        while i < bytes.len() && LONGEST_LINE <= out.len() - filled {
+            let fed = self.feed_line(line, bytes, i, text, &mut tree, &mut out[filled..]);
+            line = fed.line;
+            i = fed.next;
+            filled += fed.count;
+        }
+        Fed {
+            line,
+            next: i,
+            count: filled,
+        }
     }
-    let mut tree = [0u16; 4096];
-    answer(states, rows, accepting, names, line, text, &mut tree, out)
+
+    // At the end of the input: puts the output line that answers a last line without byte 10, or nothing where that line is empty;
+    // gives how many bytes are to be printed.
+    pub fn last_line(&self, line: Line, text: &[u8], out: &mut [u8]) -> usize
+        requires holding { Holding line text.now }
+        requires longest_line_in_bounds { longest_line ≤ length out.old }
+        ensures { (held : List ℕ) → Holds held line text.now
+            → Begins out.new (output_for self.now.states self.now.rows.now self.now.accepting.now self.now.names.now held) result }
+    {
+        let n = line.len;
+        if n == 0 {
+            return 0;
+        }
+        let mut tree = [0u16; 4096];
+        self.answer(line, text, &mut tree, out)
+    }
 }

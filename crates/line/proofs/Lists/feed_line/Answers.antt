@@ -3,7 +3,7 @@ use mathlib.Core.Path.{◌≡◌, refl}
 use native.Mathlib.Omega.{arith}
 use lib.ListN.{length}
 use Rattle.line.proofs.Walking.{walks_first, walks_more, walks_out, walks_end}
-use Rattle.line.proofs.feed_line.Goals as goal
+use Rattle.line.proofs.Lists.feed_line.Goals as goal
 
 pub loop-i-init : goal.loop-i-init
 loop-i-init c = (walks_first _ _ _ _ (search rules), refl, refl, refl)

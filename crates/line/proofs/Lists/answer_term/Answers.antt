@@ -2,7 +2,7 @@ use native.Mathlib.Omega.{arith}
 use lib.Seq.{length-take-le}
 use mathlib.Core.Path.{sym}
 use Rattle.line.proofs.Outcomes.{read_fits_lem, number_shown, number_turned}
-use Rattle.line.proofs.answer_term.Goals as goal
+use Rattle.line.proofs.Lists.answer_term.Goals as goal
 
 pub slice_bounds-answer_tree-end : goal.slice_bounds-answer_tree-end
 slice_bounds-answer_tree-end c =

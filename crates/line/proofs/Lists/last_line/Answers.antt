@@ -1,5 +1,5 @@
 use Rattle.line.proofs.Answering.{last_none, last_some}
-use Rattle.line.proofs.last_line.Goals as goal
+use Rattle.line.proofs.Lists.last_line.Goals as goal
 
 pub returns-then-n-eq0 : goal.returns-then-n-eq0
 returns-then-n-eq0 c held x = last_none x _ _ _ _ _ c.if-n-eq0.true

@@ -1,5 +1,5 @@
 use Rattle.line.proofs.Answering.{number_answered, long_answered, term_answered}
-use Rattle.line.proofs.answer.Goals as goal
+use Rattle.line.proofs.Lists.answer.Goals as goal
 
 pub returns-in-Some : goal.returns-in-Some
 returns-in-Some c held x = number_answered x _ _ _ _ _ _ _ c.number_of.ensures _ c.in-Some.is c.answer_number.ensures

@@ -4,7 +4,7 @@ use mathlib.Core.Path.{refl, ◌∙◌}
 use lib.ListN.{length, length-replicate}
 use borrow.Rule.Slice.PartMut.{same_len_mid}
 use Rattle.line.proofs.Gathering.{gathers_first, gathers_holding, gathers_more}
-use Rattle.line.proofs.gather.Goals as goal
+use Rattle.line.proofs.Lists.gather.Goals as goal
 
 pub loop-i-init : goal.loop-i-init
 loop-i-init c = (gathers_first _ _ _ _ _ _ _ _ _ (search rules), refl, refl, length-replicate {A = ℕ} 4096 0)

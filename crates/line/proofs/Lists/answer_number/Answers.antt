@@ -2,7 +2,7 @@ use native.Mathlib.Omega.{arith}
 use lib.Seq.{length-take-le}
 use mathlib.Core.Path.{sym}
 use Rattle.line.proofs.Outcomes.{wrote_fits, term_shown, term_turned}
-use Rattle.line.proofs.answer_number.Goals as goal
+use Rattle.line.proofs.Lists.answer_number.Goals as goal
 
 pub slice_bounds-put_term-end : goal.slice_bounds-put_term-end
 slice_bounds-put_term-end c = omega (arith, (wrote_fits c.write.ensures c.requires.tree_len _ c.in-Ok.is), c.write.auto.tree, c.requires.tree_len)
