@@ -21,7 +21,6 @@ use Rattle.model.proofs.Used.{among_place, used_marks, marks_unique}
 use Rattle.model.proofs.UsedPass.{used_since, since_listed, since_own, since_next, since_local}
 use Rattle.model.proofs.UsedKept.{used_alike}
 use Rattle.rows.specs.Words.{rows_in, row_no, held_table}
-use Rattle.rows.proofs.Words.{rows_long}
 use Rattle.counts.specs.Chain.{target, InOrder}
 use Rattle.counts.specs.States.{held}
 use Rattle.used.specs.Marked.{is_set, NoneEmpty, RowPlaced, MarkedToo, row_names, listed_by, named_row, named_for, AllMarked, PassedBy, TurnReady, Turned, PassReady, FoundUsed}
@@ -127,12 +126,10 @@ module _ {states : ℕ} {pool accepting words first cs used₀ : List ℕ} (g : 
     pub mark_here : n < m → m - 1 < length used
     mark_here l = omega (arith, x.low, x.long, b.long, g.used_room)
 
-    pub turn_ready : {full : Bool} → NoneEmpty full states cs → n < m → TurnReady full pool words first cs used n (m - 1)
+    pub turn_ready : {full : Bool} → NoneEmpty full states cs → n < m → TurnReady full rows first cs used n (m - 1)
     turn_ready w l = record {
       whole = record { some = λ e a i. w.some e a (omega (arith, x.low)) };
-      rows_held = g.rows_held;
-      chained = g.chained;
-      lower = λ r i e. record { placed = λ k j. omega (arith, g.ordered.lower r (rw (rows_long pool words) i) k j, e) };
+      lower = λ r i e. record { placed = λ k j. omega (arith, g.ordered.lower r i k j, e) };
       state = omega (arith, x.low, g.first_room);
       passed = record { passed = x.passed; low = omega arith; counted = omega (arith, x.low, g.cs_room); room = omega (arith, x.low, x.long, b.long, g.used_room) };
     }

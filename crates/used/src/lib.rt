@@ -1,16 +1,18 @@
 // Which states are used, and the limits that used states are held to.
 #![tactic(auto)]
 
-ghost use Rattle.std.specs.Prelude.{◌≡◌, ◌≤◌, true, map, length, ltb};
+ghost use Rattle.std.specs.Prelude.{◌≡◌, ◌<◌, ◌≤◌, true, map, length, ltb};
 ghost use Rattle.model.specs.Count.{product};
 ghost use Rattle.model.specs.Reach.{is_among};
 ghost use Rattle.rows.specs.Words.{rows_in};
 ghost use Rattle.counts.specs.States.{held};
 ghost use Rattle.used.specs.Marked.{Placed, NoneEmpty, ArgsSome, MarkedToo, RowPlaced, row_names, listed_by, AllMarked, PassedBy, TurnReady, Turned, PassReady, FoundUsed};
 ghost use Rattle.used.specs.Limits.{BeyondFrom, FaultFrom, FaultReady, FirstUsed};
-ghost use Rattle.used.specs.Settled.{RowsChained, RowsCleared, ClearReady, Cleared, SettleReady, Settled};
+ghost use Rattle.used.specs.Settled.{RowsCleared, ClearReady, Cleared, SettleReady, Settled};
 
+use counts::ByTarget;
 use model::{Kind, Refusal, refuse};
+use rows::Rows;
 
 // The most entries that a state's longest tree may have.
 const LENGTH_LIMIT: u64 = 4096;
@@ -96,19 +98,20 @@ fn pass_marked(counts: &[u64], used: &[u8], low: usize, m: usize) -> usize
 // marked.
 fn mark_rows(
     full: bool,
-    pool: &[u16],
-    words: &[u64],
-    first: &[u16],
+    chains: &ByTarget,
     counts: &[u64],
     used: &mut [u8],
     low: usize,
     q: usize,
 ) -> usize
-    requires { TurnReady full pool.now words.now first.now counts.now used.old low q }
-    ensures { Turned (rows_in pool.now words.now) counts.now q used.old used.new result }
+    requires { TurnReady full (rows_in chains.now.rows.pool.now chains.now.rows.words.now) chains.now.first.now
+        counts.now used.old low q }
+    ensures { Turned (rows_in chains.now.rows.pool.now chains.now.rows.words.now) counts.now q
+        used.old used.new result }
 {
+    let Rows { pool, words } = chains.rows;
     let mut n = low;
-    let mut p = usize::from(first[q]);
+    let mut p = usize::from(chains.first[q]);
     while 0 < p {
         if q <= n {
             return n;
@@ -126,15 +129,14 @@ fn mark_rows(
 // states.
 pub fn find_used(
     states: usize,
-    pool: &[u16],
     accepting: &[u16],
-    words: &[u64],
-    first: &[u16],
+    chains: &ByTarget,
     counts: &[u64],
     used: &mut [u8],
 )
-    requires { PassReady states pool.now accepting.now words.now first.now counts.now used.old }
-    ensures { FoundUsed states pool.now accepting.now words.now used.old used.new }
+    requires { PassReady states chains.now.rows.pool.now accepting.now chains.now.rows.words.now chains.now.first.now
+        counts.now used.old }
+    ensures { FoundUsed states chains.now.rows.pool.now accepting.now chains.now.rows.words.now used.old used.new }
 {
     let full = none_empty(states, counts);
     mark_listed(accepting, counts, used);
@@ -144,7 +146,7 @@ pub fn find_used(
             break;
         }
         if used[m] != 0 {
-            n = mark_rows(full, pool, words, first, counts, used, n, m);
+            n = mark_rows(full, chains, counts, used, n, m);
         }
     }
 }
@@ -191,11 +193,12 @@ pub fn first_fault(states: usize, marks: &[u64], used: &[u8], from: usize) -> Op
 }
 
 // Sets the sums of the rows of state q to 0.
-fn clear_rows(words: &[u64], first: &[u16], sums: &mut [u64], q: usize)
-    requires { RowsChained words.now first.now sums.old q }
-    ensures { RowsCleared words.now q sums.old sums.new }
+fn clear_rows(chains: &ByTarget, sums: &mut [u64], q: usize)
+    requires { (q < length chains.now.first.now) × (length chains.now.rows.words.now ≤ length sums.old) }
+    ensures { RowsCleared chains.now.rows.words.now q sums.old sums.new }
 {
-    let mut p = usize::from(first[q]);
+    let words = chains.rows.words;
+    let mut p = usize::from(chains.first[q]);
     while 0 < p {
         sums[p - 1] = 0;
         p = rows::after_in(words[p - 1]);
@@ -205,19 +208,19 @@ fn clear_rows(words: &[u64], first: &[u16], sums: &mut [u64], q: usize)
 // Sets the counts of unused states, and the sums of their rows, to 0.
 pub fn clear_unused(
     states: usize,
-    words: &[u64],
-    first: &[u16],
+    chains: &ByTarget,
     used: &[u8],
     counts: &mut [u64],
     sums: &mut [u64],
 )
-    requires { ClearReady states words.now first.now used.now counts.old sums.old }
-    ensures { Cleared states words.now used.now counts.old counts.new sums.old sums.new }
+    requires { ClearReady states chains.now.rows.pool.now chains.now.rows.words.now chains.now.first.now used.now
+        counts.old sums.old }
+    ensures { Cleared states chains.now.rows.words.now used.now counts.old counts.new sums.old sums.new }
 {
     for q in 0..states {
         if used[q] == 0 {
             counts[q] = 0;
-            clear_rows(words, first, sums, q);
+            clear_rows(chains, sums, q);
         }
     }
 }
@@ -226,26 +229,24 @@ pub fn clear_unused(
 // unused states, and the sums of their rows, become 0.
 fn settle_used(
     states: usize,
-    pool: &[u16],
     accepting: &[u16],
-    words: &[u64],
-    first: &[u16],
+    chains: &ByTarget,
     counts: &mut [u64],
     marks: &[u64],
     used: &mut [u8],
     sums: &mut [u64],
     from: usize,
 ) -> Result<(), Refusal>
-    requires { SettleReady states pool.now accepting.now words.now first.now counts.old marks.now used.old sums.old
-        × FaultFrom states marks.now from }
-    ensures { Settled true states pool.now accepting.now words.now counts.old
+    requires { SettleReady states chains.now.rows.pool.now accepting.now chains.now.rows.words.now chains.now.first.now
+        counts.old marks.now used.old sums.old × FaultFrom states marks.now from }
+    ensures { Settled true states chains.now.rows.pool.now accepting.now chains.now.rows.words.now counts.old
         counts.new sums.old sums.new result }
 {
-    find_used(states, pool, accepting, words, first, counts, used);
+    find_used(states, accepting, chains, counts, used);
     if let Some((q, kind)) = first_fault(states, marks, used, from) {
         return Err(refuse(kind, q as u64));
     }
-    clear_unused(states, words, first, used, counts, sums);
+    clear_unused(states, chains, used, counts, sums);
     Ok(())
 }
 
@@ -254,24 +255,21 @@ fn settle_used(
 pub fn settle(
     prepare: bool,
     states: usize,
-    pool: &[u16],
     accepting: &[u16],
-    words: &[u64],
-    first: &[u16],
+    chains: &ByTarget,
     counts: &mut [u64],
     marks: &[u64],
     used: &mut [u8],
     sums: &mut [u64],
 ) -> Result<(), Refusal>
-    requires { SettleReady states pool.now accepting.now words.now first.now counts.old marks.now used.old sums.old }
-    ensures { Settled prepare states pool.now accepting.now words.now counts.old
+    requires { SettleReady states chains.now.rows.pool.now accepting.now chains.now.rows.words.now chains.now.first.now
+        counts.old marks.now used.old sums.old }
+    ensures { Settled prepare states chains.now.rows.pool.now accepting.now chains.now.rows.words.now counts.old
         counts.new sums.old sums.new result }
 {
     let from = first_place(states, marks);
     if prepare || from < states {
-        settle_used(
-            states, pool, accepting, words, first, counts, marks, used, sums, from,
-        )?;
+        settle_used(states, accepting, chains, counts, marks, used, sums, from)?;
     }
     Ok(())
 }
