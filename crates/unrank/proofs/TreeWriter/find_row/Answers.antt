@@ -1,7 +1,7 @@
 -- The rows of the state are walked along their chain, to the last that does not begin above the value.
 use native.Mathlib.Omega.{arith}
 use Rattle.unrank.proofs.Rows.{rows_few, some_row, first_inside, walk_begins, next_inside, next_summed, opens_next, enters_next, walk_next, walk_on, opens_last, enters_last}
-use Rattle.unrank.proofs.find_row.Goals as goal
+use Rattle.unrank.proofs.TreeWriter.find_row.Goals as goal
 
 pub overflow_sub-r : goal.overflow_sub-r
 overflow_sub-r c = omega (arith, c.from-r.ensures, some_row c.requires)
@@ -12,11 +12,11 @@ bounds-words-r c = omega (arith, c.from-r.ensures, first_inside c.requires)
 pub loop-p-init : goal.loop-p-init
 loop-p-init c = rw (c.after_in-p.ensures, c.from-r.ensures) (walk_begins c.requires)
 
-pub offset_bounds-sums-p : goal.offset_bounds-sums-p
-offset_bounds-sums-p c = omega (arith, next_inside c.requires c.loop-p.invariant c.loop-p-test.true, rows_few c.requires)
+pub offset_bounds-self-p : goal.offset_bounds-self-p
+offset_bounds-self-p c = omega (arith, next_inside c.requires c.loop-p.invariant c.loop-p-test.true, rows_few c.requires)
 
-pub bounds-sums-p : goal.bounds-sums-p
-bounds-sums-p c = next_summed c.requires c.loop-p.invariant c.loop-p-test.true
+pub bounds-self-p : goal.bounds-self-p
+bounds-self-p c = next_summed c.requires c.loop-p.invariant c.loop-p-test.true
 
 pub enter_row-requires : goal.enter_row-requires
 enter_row-requires c = opens_next c.requires c.loop-p.invariant c.loop-p-test.true c.if-value-end.true

@@ -1,6 +1,6 @@
 use native.Mathlib.Omega.{arith}
 use Rattle.unrank.proofs.Children.{shared, child_lower, child_valued, measure_begins, measure_next, measure_small, measure_ends}
-use Rattle.unrank.proofs.+tree_length.Goals as goal
+use Rattle.unrank.proofs.TreeWriter.+tree_length.Goals as goal
 
 pub loop-a-init : goal.loop-a-init
 loop-a-init t c = rw c.args_in-a-items.ensures (measure_begins c.requires c.find_row-row.ensures)

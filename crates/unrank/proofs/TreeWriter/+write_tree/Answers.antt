@@ -2,7 +2,7 @@ use native.Mathlib.Omega.{arith}
 use mathlib.Core.Path.{refl}
 use Rattle.unrank.proofs.Children.{shared, child_lower, child_valued}
 use Rattle.unrank.proofs.Writing.{some_entry, tree_begins, child_room, tree_next, tree_ends}
-use Rattle.unrank.proofs.+write_tree.Goals as goal
+use Rattle.unrank.proofs.TreeWriter.+write_tree.Goals as goal
 
 pub bounds-out-0 : goal.bounds-out-0
 bounds-out-0 t c = omega (arith, some_entry c.find_row-row.ensures, c.requires.value_in_bounds)

@@ -1,7 +1,7 @@
 use native.Mathlib.Omega.{arith}
 use mathlib.Core.Path.{◌∙◌}
 use Rattle.rank.proofs.Summing.{sum_begins, sum_goes, sum_fits, number_fits, listed_here, not_listed}
-use Rattle.rank.proofs.number_in.Goals as goal
+use Rattle.rank.proofs.Numbering.number_in.Goals as goal
 
 pub loop-a-init : goal.loop-a-init
 loop-a-init c = sum_begins _ _ _
