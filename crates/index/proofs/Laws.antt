@@ -1,16 +1,15 @@
 -- Laws of the index. Assumes nothing.
 use Rattle.std.specs.Prelude.{Option, Some, None, is_some, Ok, Err}
-use Rattle.std.specs.Cmp.Lexicographic.{pointwise}
 use Prim.Native.Nat.{ℕ, zero, suc, ◌+◌, ◌-◌, ◌*◌, ◌/◌, ◌%◌, ◌<◌, ◌≤◌}
 use mathlib.Core.Path.{◌≡◌, refl, sym, ap, ◌∙◌}
 use mathlib.Core.Bool.{Bool, true, false, ◌&&◌}
-use mathlib.Core.List.{List, [], ◌∷◌}
+use mathlib.Core.List.{List}
 use native.Mathlib.Omega.{arith}
 use lib.ListN.{length, get_or, set, length-map}
 use lib.Dec.{eqb}
 use borrow.Author.Tests.{eqb-true, eq-eqb}
 use Rattle.model.specs.Choice.{any_below}
-use Rattle.model.specs.Table.{Row, row_is, same_by, same_list}
+use Rattle.model.specs.Table.{Row, row_is, same_list}
 use Rattle.model.proofs.Choice.{any_true}
 use Rattle.model.proofs.Rows.{row_is_true}
 use Rattle.model.proofs.Lists.{same_length}
@@ -87,14 +86,6 @@ module _ (pool words : List ℕ) where
 
 -- ---- the test of a row
 
--- `==` of two lists says whether they are equal, entry by entry
-same_is : (xs ys : List ℕ) → pointwise eqb xs ys ≡ same_list xs ys
-unfolding same_by
-same_is [] [] = refl
-same_is [] (y ∷ ys) = refl
-same_is (x ∷ xs) [] = refl
-same_is (x ∷ xs) (y ∷ ys) = ap (λ (b : Bool). eqb x y && b) (same_is xs ys)
-
 -- a key that differs from the word's low bits
 pub key_differs : (pool : List ℕ) (w key : ℕ) (xs : List ℕ) → Inside pool w → key / 256 ≡ length xs → (w % 65536 ≡ key → ⊥) → false ≡ row_is (row_in pool w) (key % 256) xs
 unfolding row_is
@@ -106,11 +97,11 @@ key_differs pool w key xs inside e ne = go (eqb (symbol_in w) (key % 256)) refl
         rw (q, same_length eqb (args_in pool w) xs (λ h. ne (omega (arith, h, args_long pool w inside, e, s)))) refl
     go false q = rw q refl
 
-pub key_same : (pool : List ℕ) (w key : ℕ) (xs ys : List ℕ) (b : Bool) → w % 65536 ≡ key → ys ≡ args_in pool w → b ≡ pointwise eqb ys xs → b ≡ row_is (row_in pool w) (key % 256) xs
+pub key_same : (pool : List ℕ) (w key : ℕ) (xs ys : List ℕ) (b : Bool) → w % 65536 ≡ key → ys ≡ args_in pool w → b ≡ same_list ys xs → b ≡ row_is (row_in pool w) (key % 256) xs
 unfolding row_is
 key_same pool w key xs ys b e f g =
     let s : symbol_in w ≡ key % 256 = omega arith in
-    rw (eq-eqb (symbol_in w) (key % 256) s, ← f) (g ∙ same_is ys xs)
+    rw (eq-eqb (symbol_in w) (key % 256) s, ← f) g
 
 -- ---- the walk along a chain, and one row more
 

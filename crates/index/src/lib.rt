@@ -3,7 +3,7 @@
 
 ghost use Rattle.std.specs.Prelude.{◌≡◌, ◌+◌, ◌*◌, ◌/◌, ◌%◌, ◌<◌, ◌≤◌, length, get_or, drop};
 ghost use Rattle.std.proofs.Props.{props};
-ghost use Rattle.model.specs.Table.{row_is};
+ghost use Rattle.model.specs.Table.{same_list, row_is};
 ghost use Rattle.rows.specs.Words.{row_in, row_held, rows_in, nexts, Inside, Held};
 ghost use Rattle.index.specs.Hash.{two, fours, mix, mix_all, hash_of, Multiplier, Sized};
 ghost use Rattle.index.specs.Index.{found_by, row_found, Index, SoughtRow, Seeking, Enterable, EnteredRow};
@@ -39,12 +39,25 @@ pub enum TakeError {
     Crowded,
 }
 
+// Whether two argument lists of one length are equal. `==` takes a third longer where all rows of a crowded bucket are compared: it tests in groups.
+fn same(a: &[u16], b: &[u16]) -> bool
+    requires { length a.now ≡ length b.now }
+    ensures { result ≡ same_list a.now b.now }
+{
+    for i in 0..a.len() {
+        if a[i] != b[i] {
+            return false;
+        }
+    }
+    true
+}
+
 // Whether the row of a word has the symbol and the count of a key, and these arguments.
 fn row_is(pool: &[u16], w: u64, key: u64, args: &[u16]) -> bool
     requires { Inside pool.now w × (key / 256 ≡ length args.now) }
     ensures { result ≡ row_is (row_in pool.now w) (key % 256) args.now }
 {
-    w % 65536 == key && rows::args_in(pool, w) == args
+    w % 65536 == key && same(rows::args_in(pool, w), args)
 }
 
 // Two arguments as one number.

@@ -1,29 +1,35 @@
 // Lines: what is printed for the program's input, line by line, with any table and names list.
 #![tactic(auto)]
 
-ghost use Rattle.std.specs.Prelude.{◌≡◌, true, ◌&&◌, List, [], ◌∷◌, ◌++◌, ℕ, ◌+◌, ◌-◌, ◌*◌, ◌<◌, ◌≤◌, min, length, ltb};
+ghost use Rattle.std.specs.Prelude.{◌≡◌, List, [], ◌∷◌, ◌++◌, ℕ, ◌+◌, ◌<◌, ◌≤◌, length, ltb, if◌then◌else◌};
 ghost use Rattle.model.specs.Answers.{refused_by};
 ghost use Rattle.model.specs.Number.{number_outcome};
 ghost use Rattle.model.specs.TermOperations.{bytes_of, write_term_outcome};
 ghost use Rattle.term.specs.Written.{Put};
-ghost use Rattle.line.specs.Lines.{is_digit, decimal, printed, answer_number, answer_term, answer_to, output_for};
-ghost use Rattle.line.specs.Held.{beyond, longest_line, Holds, Holding, Begins, part, Prints};
+ghost use Rattle.line.specs.Lines.{decimal, printed, answer_number, answer_term, answer_to, output_for};
+ghost use Rattle.line.specs.Held.{with_digit, longest_line, Holds, Holding, Begins, part, Prints};
 
 use model::{Answer, Kind, Refusal, refuse};
 use term::put_bytes;
 
-// Below no total: this, the largest number of 64 bits, stands for every number from here up.
-const BEYOND: u64 = 18446744073709551615;
+// What a program answers by: a table and a names list.
+#[derive(Clone, Copy)]
+pub struct Lists<'a> {
+    pub states: u64,
+    pub rows: &'a [u16],
+    pub accepting: &'a [u16],
+    pub names: &'a [u8],
+}
 
 // The most bytes that answer one line.
 const LONGEST_LINE: usize = 53249;
 
-// A line so far: how many bytes it has (4,097 stands for more), whether all are digits, and the number that digits make.
+// A line so far: how many bytes it has (4,097 stands for more), and the number that they make while all are digits. The largest number of
+// 64 bits, which is below no total, stands for every number from there up.
 #[derive(Clone, Copy)]
 pub struct Line {
     len: usize,
-    digits: bool,
-    value: u64,
+    number: Option<u64>,
 }
 
 // After bytes were fed: the line so far, the place of the next byte to feed, and how many bytes are to be printed.
@@ -40,42 +46,19 @@ pub fn empty_line() -> Line
 {
     Line {
         len: 0,
-        digits: true,
-        value: 0,
+        number: Some(0),
     }
 }
 
-// `0` to `9`.
-fn is_digit(b: u8) -> bool
-    ensures { result ≡ is_digit b }
+// The number that digits make, with one byte more; none where that is no digit.
+fn with_digit(number: Option<u64>, b: u8) -> Option<u64>
+    ensures { result ≡ with_digit number b }
 {
-    if b < b'0' {
-        return false;
+    let n = number?;
+    if !b.is_ascii_digit() {
+        return None;
     }
-    b <= b'9'
-}
-
-// Whether all bytes of a line are digits after one byte more.
-fn still_digits(digits: bool, b: u8) -> bool
-    ensures { result ≡ (digits && is_digit b) }
-{
-    if digits {
-        return is_digit(b);
-    }
-    false
-}
-
-// The number with one digit more, or BEYOND where it is too large.
-fn with_digit(value: u64, b: u8) -> u64
-    ensures { is_digit b ≡ true → result ≡ min (value * 10 + (b - 48)) beyond }
-{
-    if is_digit(b) {
-        let digit = (b - b'0') as u64;
-        if value <= (BEYOND - digit) / 10 {
-            return value * 10 + digit;
-        }
-    }
-    BEYOND
+    Some(n.saturating_mul(10).saturating_add(u64::from(b - b'0')))
 }
 
 // Adds a byte to the line; `text` keeps the first 4,096.
@@ -84,20 +67,14 @@ fn feed(line: Line, b: u8, text: &mut [u8]) -> Line
     ensures { (held : List ℕ) → Holds held line text.old → (b ≡ 10 → ⊥) → Holds (held ++ b ∷ []) result text.new }
 {
     let len = line.len;
-    let digits = still_digits(line.digits, b);
-    let value = with_digit(line.value, b);
+    let number = with_digit(line.number, b);
     if 4096 <= len {
-        return Line {
-            len: 4097,
-            digits: digits,
-            value: value,
-        };
+        return Line { len: 4097, number };
     }
     text[len] = b;
     Line {
         len: len + 1,
-        digits: digits,
-        value: value,
+        number,
     }
 }
 
@@ -108,7 +85,7 @@ fn put_decimal(n: u64, mark: u8, at: usize, out: &mut [u8]) -> usize
 {
     let mut digits = [0u8; 20];
     let k = io::decimal(n, &mut digits);
-    let next = put_bytes(&mut *out, at, &digits[..k]);
+    let next = put_bytes(out, at, &digits[..k]);
     out[next] = mark;
     next + 1
 }
@@ -126,11 +103,10 @@ fn put_refusal(r: Refusal, out: &mut [u8]) -> usize
     requires { longest_line ≤ length out.old }
     ensures { Begins out.new (printed (refused_by r) decimal) result }
 {
-    let kind = r.kind;
-    let number = model::kind_number(kind) as u64;
+    let number = u64::from(model::kind_number(r.kind));
     let place = r.place;
-    let a = put_bytes(&mut *out, 0, b"refused ");
-    let b = put_decimal(number, b' ', a, &mut *out);
+    let a = put_bytes(out, 0, b"refused ");
+    let b = put_decimal(number, b' ', a, out);
     put_decimal(place, b'\n', b, out)
 }
 
@@ -141,7 +117,7 @@ fn put_term(names: &[u8], tree: &[u16], out: &mut [u8]) -> usize
         (printed (write_term_outcome names.now tree.now (length (bytes_of names.now tree.now)))
         (λ count. bytes_of names.now tree.now)) result }
 {
-    match term::write_term(names, tree, &mut *out) {
+    match term::write_term(names, tree, out) {
         Ok(count) => {
             let n = count as usize;
             out[n] = b'\n';
@@ -151,219 +127,155 @@ fn put_term(names: &[u8], tree: &[u16], out: &mut [u8]) -> usize
     }
 }
 
-// Puts the output line that answers a number; the tree is written into `tree`.
-fn answer_number(
-    states: u64,
-    rows: &[u16],
-    accepting: &[u16],
-    names: &[u8],
-    number: u64,
-    tree: &mut [u16],
-    out: &mut [u8],
-) -> usize
-    requires tree_len { length tree.old ≡ 4096 }
-    requires longest_line_in_bounds { longest_line ≤ length out.old }
-    ensures { Begins out.new (answer_number states rows.now accepting.now names.now number) result }
+// The number that the line is, if it is one.
+fn number_of(line: Line) -> Option<u64>
+    ensures { result ≡ (if ltb 0 line.len then line.number else None) }
 {
-    match operations::write(states, rows, accepting, number, &mut *tree) {
-        Ok(count) => {
-            let n = count as usize;
-            put_term(names, &tree[..n], out)
+    if 0 < line.len { line.number } else { None }
+}
+
+impl Lists<'_> {
+    // Puts the output line that answers a number; the tree is written into `tree`.
+    fn answer_number(&self, number: u64, tree: &mut [u16], out: &mut [u8]) -> usize
+        requires tree_len { length tree.old ≡ 4096 }
+        requires longest_line_in_bounds { longest_line ≤ length out.old }
+        ensures { Begins out.new (answer_number self.now.states self.now.rows.now self.now.accepting.now self.now.names.now number) result }
+    {
+        match operations::write(self.states, self.rows, self.accepting, number, tree) {
+            Ok(count) => {
+                let n = count as usize;
+                put_term(self.names, &tree[..n], out)
+            }
+            Err(r) => put_refusal(r, out),
         }
-        Err(r) => put_refusal(r, out),
     }
-}
 
-// Puts the output line of a tree's number.
-fn answer_tree(states: u64, rows: &[u16], accepting: &[u16], tree: &[u16], out: &mut [u8]) -> usize
-    requires { longest_line ≤ length out.old }
-    ensures { Begins out.new (printed (number_outcome states rows.now accepting.now tree.now) decimal) result }
-{
-    match operations::number(states, rows, accepting, tree) {
-        Ok(number) => put_number(number, out),
-        Err(r) => put_refusal(r, out),
-    }
-}
-
-// Puts the output line that answers a term; the tree is read into `tree`.
-fn answer_term(
-    states: u64,
-    rows: &[u16],
-    accepting: &[u16],
-    names: &[u8],
-    text: &[u8],
-    tree: &mut [u16],
-    out: &mut [u8],
-) -> usize
-    requires tree_len { length tree.old ≡ 4096 }
-    requires longest_line_in_bounds { longest_line ≤ length out.old }
-    ensures { Begins out.new (answer_term states rows.now accepting.now names.now text.now) result }
-{
-    match term::read_term(names, text, &mut *tree) {
-        Ok(count) => {
-            let n = count as usize;
-            answer_tree(states, rows, accepting, &tree[..n], out)
+    // Puts the output line of a tree's number.
+    fn answer_tree(&self, tree: &[u16], out: &mut [u8]) -> usize
+        requires { longest_line ≤ length out.old }
+        ensures { Begins out.new (printed (number_outcome self.now.states self.now.rows.now self.now.accepting.now tree.now) decimal) result }
+    {
+        match operations::number(self.states, self.rows, self.accepting, tree) {
+            Ok(number) => put_number(number, out),
+            Err(r) => put_refusal(r, out),
         }
-        Err(r) => put_refusal(r, out),
     }
-}
 
-// Whether the line is a number.
-fn is_number(line: Line) -> bool
-    ensures { result ≡ (ltb 0 line.len && line.digits) }
-{
-    if 0 < line.len {
-        return line.digits;
-    }
-    false
-}
-
-// Puts the output line that answers an input line; `tree` is a list to work in.
-fn answer(
-    states: u64,
-    rows: &[u16],
-    accepting: &[u16],
-    names: &[u8],
-    line: Line,
-    text: &[u8],
-    tree: &mut [u16],
-    out: &mut [u8],
-) -> usize
-    requires holding { Holding line text.now }
-    requires tree_len { (length tree.old ≡ 4096) × (longest_line ≤ length out.old) }
-    ensures { (held : List ℕ) → Holds held line text.now
-        → Begins out.new (answer_to states rows.now accepting.now names.now held) result }
-{
-    let n = line.len;
-    let value = line.value;
-    if is_number(line) {
-        return answer_number(states, rows, accepting, names, value, tree, out);
-    }
-    if 4096 < n {
-        return put_refusal(refuse(Kind::TextTooLong, 0), out);
-    }
-    answer_term(states, rows, accepting, names, &text[..n], tree, out)
-}
-
-// Feeds the bytes from a place on, up to the end of a line or of the bytes. Where a line has ended, puts the output line that answers
-// it; `tree` is a list to work in.
-fn feed_line(
-    states: u64,
-    rows: &[u16],
-    accepting: &[u16],
-    names: &[u8],
-    line: Line,
-    bytes: &[u8],
-    from: usize,
-    text: &mut [u8],
-    tree: &mut [u16],
-    out: &mut [u8],
-) -> Fed
-    requires holding { Holding line text.old }
-    requires from_in_bounds { (from < length bytes.now) × (length tree.old ≡ 4096) × (longest_line ≤ length out.old) }
-    ensures from_lt_next { (from < result.next) × (result.next ≤ length bytes.now) }
-    ensures by_index { (held : List ℕ) → Holds held line text.old
-        → Prints states rows.now accepting.now names.now held
-        (part bytes.now from result.next) result.line text.new out.new result.count }
-{
-    let mut so_far = line;
-    let mut i = from;
-    while i < bytes.len() {
-        let b = bytes[i];
-        if b == b'\n' {
-            let n = answer(states, rows, accepting, names, so_far, &*text, tree, out);
-            return Fed {
-                line: empty_line(),
-                next: i + 1,
-                count: n,
-            };
+    // Puts the output line that answers a term; the tree is read into `tree`.
+    fn answer_term(&self, text: &[u8], tree: &mut [u16], out: &mut [u8]) -> usize
+        requires tree_len { length tree.old ≡ 4096 }
+        requires longest_line_in_bounds { longest_line ≤ length out.old }
+        ensures { Begins out.new (answer_term self.now.states self.now.rows.now self.now.accepting.now self.now.names.now text.now) result }
+    {
+        match term::read_term(self.names, text, tree) {
+            Ok(count) => {
+                let n = count as usize;
+                self.answer_tree(&tree[..n], out)
+            }
+            Err(r) => put_refusal(r, out),
         }
-        so_far = feed(so_far, b, &mut *text);
-        i += 1;
     }
-    Fed {
-        line: so_far,
-        next: i,
-        count: 0,
-    }
-}
 
-// Feeds the bytes from a place on, line after line, to the end of the bytes or until the list may have no room for one answer more; puts what is to
-// be printed, one answer after another.
-pub fn gather(
-    states: u64,
-    rows: &[u16],
-    accepting: &[u16],
-    names: &[u8],
-    line: Line,
-    bytes: &[u8],
-    from: usize,
-    text: &mut [u8],
-    out: &mut [u8],
-) -> Fed
-    requires holding { Holding line text.old }
-    requires from_in_bounds { (from < length bytes.now) × (longest_line ≤ length out.old) }
-    ensures from_lt_next { (from < result.next) × (result.next ≤ length bytes.now) }
-    ensures by_index { (held : List ℕ) → Holds held line text.old
-        → Prints states rows.now accepting.now names.now held
-        (part bytes.now from result.next) result.line text.new out.new result.count }
-{
-    let mut tree = [0u16; 4096];
-    let mut so_far = line;
-    let mut i = from;
-    let mut filled: usize = 0;
-    while i < bytes.len() {
-        if out.len() - filled < LONGEST_LINE {
-            return Fed {
-                line: so_far,
-                next: i,
-                count: filled,
-            };
+    // Puts the output line that answers an input line; `tree` is a list to work in.
+    fn answer(&self, line: Line, text: &[u8], tree: &mut [u16], out: &mut [u8]) -> usize
+        requires holding { Holding line text.now }
+        requires tree_len { (length tree.old ≡ 4096) × (longest_line ≤ length out.old) }
+        ensures { (held : List ℕ) → Holds held line text.now
+            → Begins out.new (answer_to self.now.states self.now.rows.now self.now.accepting.now self.now.names.now held) result }
+    {
+        let n = line.len;
+        if let Some(number) = number_of(line) {
+            return self.answer_number(number, tree, out);
         }
-        let fed = feed_line(
-            states,
-            rows,
-            accepting,
-            names,
-            so_far,
-            bytes,
-            i,
-            &mut *text,
-            &mut tree,
-            &mut out[filled..],
-        );
-        let l = fed.line;
-        so_far = l;
-        i = fed.next;
-        filled += fed.count;
+        if 4096 < n {
+            return put_refusal(refuse(Kind::TextTooLong, 0), out);
+        }
+        self.answer_term(&text[..n], tree, out)
     }
-    Fed {
-        line: so_far,
-        next: i,
-        count: filled,
-    }
-}
 
-// At the end of the input: puts the output line that answers a last line without byte 10, or nothing where that line is empty;
-// gives how many bytes are to be printed.
-pub fn last_line(
-    states: u64,
-    rows: &[u16],
-    accepting: &[u16],
-    names: &[u8],
-    line: Line,
-    text: &[u8],
-    out: &mut [u8],
-) -> usize
-    requires holding { Holding line text.now }
-    requires longest_line_in_bounds { longest_line ≤ length out.old }
-    ensures { (held : List ℕ) → Holds held line text.now
-        → Begins out.new (output_for states rows.now accepting.now names.now held) result }
-{
-    let n = line.len;
-    if n == 0 {
-        return 0;
+    // Feeds the bytes from a place on, up to the end of a line or of the bytes. Where a line has ended, puts the output line that answers
+    // it; `tree` is a list to work in.
+    fn feed_line(
+        &self,
+        mut line: Line,
+        bytes: &[u8],
+        from: usize,
+        text: &mut [u8],
+        tree: &mut [u16],
+        out: &mut [u8],
+    ) -> Fed
+        requires holding { Holding line text.old }
+        requires from_in_bounds { (from < length bytes.now) × (length tree.old ≡ 4096) × (longest_line ≤ length out.old) }
+        ensures from_lt_next { (from < result.next) × (result.next ≤ length bytes.now) }
+        ensures by_index { (held : List ℕ) → Holds held line text.old
+            → Prints self.now.states self.now.rows.now self.now.accepting.now self.now.names.now held
+            (part bytes.now from result.next) result.line text.new out.new result.count }
+    {
+        for i in from..bytes.len() {
+            let b = bytes[i];
+            if b == b'\n' {
+                let n = self.answer(line, text, tree, out);
+                return Fed {
+                    line: empty_line(),
+                    next: i + 1,
+                    count: n,
+                };
+            }
+            line = feed(line, b, text);
+        }
+        Fed {
+            line,
+            next: bytes.len(),
+            count: 0,
+        }
     }
-    let mut tree = [0u16; 4096];
-    answer(states, rows, accepting, names, line, text, &mut tree, out)
+
+    // Feeds the bytes from a place on, line after line, to the end of the bytes or until the list may have no room for one answer more; puts what is to
+    // be printed, one answer after another.
+    pub fn gather(
+        &self,
+        mut line: Line,
+        bytes: &[u8],
+        from: usize,
+        text: &mut [u8],
+        out: &mut [u8],
+    ) -> Fed
+        requires holding { Holding line text.old }
+        requires from_in_bounds { (from < length bytes.now) × (longest_line ≤ length out.old) }
+        ensures from_lt_next { (from < result.next) × (result.next ≤ length bytes.now) }
+        ensures by_index { (held : List ℕ) → Holds held line text.old
+            → Prints self.now.states self.now.rows.now self.now.accepting.now self.now.names.now held
+            (part bytes.now from result.next) result.line text.new out.new result.count }
+    {
+        let mut tree = [0u16; 4096];
+        let mut i = from;
+        let mut filled = 0;
+        while i < bytes.len() && LONGEST_LINE <= out.len() - filled {
+            let fed = self.feed_line(line, bytes, i, text, &mut tree, &mut out[filled..]);
+            line = fed.line;
+            i = fed.next;
+            filled += fed.count;
+        }
+        Fed {
+            line,
+            next: i,
+            count: filled,
+        }
+    }
+
+    // At the end of the input: puts the output line that answers a last line without byte 10, or nothing where that line is empty;
+    // gives how many bytes are to be printed.
+    pub fn last_line(&self, line: Line, text: &[u8], out: &mut [u8]) -> usize
+        requires holding { Holding line text.now }
+        requires longest_line_in_bounds { longest_line ≤ length out.old }
+        ensures { (held : List ℕ) → Holds held line text.now
+            → Begins out.new (output_for self.now.states self.now.rows.now self.now.accepting.now self.now.names.now held) result }
+    {
+        let n = line.len;
+        if n == 0 {
+            return 0;
+        }
+        let mut tree = [0u16; 4096];
+        self.answer(line, text, &mut tree, out)
+    }
 }

@@ -142,6 +142,7 @@ pub fn stretch_at(bytes: &[u8], at: usize, seed: u64) -> Stretch
 {
     let mut h = seed;
     let mut i = at;
+    // not chunks_exact: the last word may be short, and the stretch ends in the first word that has another byte
     loop {
         let w = word_or_rest(bytes, i);
         let n = inner_ahead(w);

@@ -11,7 +11,7 @@ ghost use Rattle.streams.specs.Parts.{Wrote};
 ghost use Rattle.treenum.specs.Treenum.{printed_for, PrintsLine};
 ghost use Rattle.treenum.specs.Run.{Feeds, Turned, Ran};
 
-use line::{Fed, Line, empty_line};
+use line::{Fed, Line, Lists, empty_line};
 use std::fmt::Display;
 use std::process::ExitCode;
 use std::{fmt, io};
@@ -28,6 +28,13 @@ const ROWS: [u16; 42] = [
 const ACCEPTING: [u16; 2] = [2, 4];
 
 const NAMES: [u8; 4] = [b'a', b'\n', b'b', b'\n'];
+
+const PAPER: Lists<'static> = Lists {
+    states: STATES,
+    rows: &ROWS,
+    accepting: &ACCEPTING,
+    names: &NAMES,
+};
 
 // Why a run ends before all is answered: a read failed; a write failed; or there were more reads than can be counted.
 #[derive(Clone, Copy)]
@@ -55,9 +62,7 @@ fn gather(line: Line, bytes: &[u8], from: usize, text: &mut [u8], out: &mut [u8]
     ensures by_index { (held : List ℕ) → Holds held line text.old
         → PrintsLine held (part bytes.now from result.next) result.line text.new out.new result.count }
 {
-    line::gather(
-        STATES, &ROWS, &ACCEPTING, &NAMES, line, bytes, from, text, out,
-    )
+    PAPER.gather(line, bytes, from, text, out)
 }
 
 // Puts what is to be printed where the input ends.
@@ -66,7 +71,7 @@ fn last_line(line: Line, text: &[u8], out: &mut [u8]) -> usize
     requires longest_line_in_bounds { longest_line ≤ length out.old }
     ensures { (held : List ℕ) → Holds held line text.now → Begins out.new (printed_for held) result }
 {
-    line::last_line(STATES, &ROWS, &ACCEPTING, &NAMES, line, text, out)
+    PAPER.last_line(line, text, out)
 }
 
 // Feeds the bytes of a read, and writes what is to be printed.

@@ -1,15 +1,16 @@
 use mathlib.Core.Path.{refl}
+use native.Mathlib.Omega.{arith}
 use Rattle.std.proofs.lemmas.Result.{err_from_is_err_and}
 use Rattle.term.proofs.Outcomes.{cleared, gave_refused, told_refused, told_gave}
 use Rattle.term.proofs.read_named.Goals as goal
 
 pub read_text-requires : goal.read_text-requires
-read_text-requires c = record { names_indexed = c.requires.names_indexed; n_value = c.requires.n_value; text_len_bound = (c.if-text-gt65536.false, cleared) }
+read_text-requires c = record { names_indexed = c.requires.names_indexed; n_value = c.requires.n_value; text_len_bound = (omega arith, cleared) }
 
 pub returns-in_err-needed : goal.returns-in_err-needed
 returns-in_err-needed c =
     let p = err_from_is_err_and c.from_residual.result c.from_residual.ensures.1 in
-    rw (p.1, p.2) (gave_refused _ _ refl (told_refused c.read_text.ensures _ c.if-text-gt65536.false _ c.in_err-needed.was))
+    rw (p.1, p.2) (gave_refused _ _ refl (told_refused c.read_text.ensures _ (omega arith) _ c.in_err-needed.was))
 
 pub returns : goal.returns
-returns c = told_gave c.read_text.ensures _ c.if-text-gt65536.false _ c.in_ok-needed.was c.put_tree.ensures
+returns c = told_gave c.read_text.ensures _ (omega arith) _ c.in_ok-needed.was c.put_tree.ensures
