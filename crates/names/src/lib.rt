@@ -2,10 +2,11 @@
 #![tactic(auto)]
 
 ghost use Rattle.std.specs.Prelude.{◌≡◌, true, ◌+◌, ◌<◌, ◌≤◌, length, drop};
-ghost use Rattle.model.specs.Names.{is_letter, is_name_byte, all_name_bytes, same_name, line_at};
+ghost use Rattle.std.proofs.Props.{props};
+ghost use Rattle.model.specs.Names.{is_letter, is_name_byte, all_name_bytes, same_name, line_at, how_many_names};
 ghost use Rattle.chains.specs.Chains.{Clear};
 ghost use Rattle.words.specs.Words.{is_list_byte};
-ghost use Rattle.names.specs.NamesIndex.{caseless, all_inner, stretch, front_of, mixed, bucket_at, StretchFrom, OnlyListBytes, name_end, name_found, Lined, Sought, Started, NamesAnswer};
+ghost use Rattle.names.specs.NamesIndex.{caseless, all_inner, stretch, front_of, mixed, bucket_at, hash_of, StretchFrom, OnlyListBytes, name_end, name_found, Lined, NamesIndexed, Started, NamesAnswer};
 
 use chains::mixed;
 use model::{Kind, Refusal, refuse};
@@ -192,40 +193,61 @@ fn name_end(names: &[u8], clean: bool, at: usize, end: usize) -> Option<usize>
     }
 }
 
-// The name on a line, as a part of the list.
-pub fn name_at<'a>(names: &'a [u8], starts: &[u16; 256], n: usize, k: usize) -> &'a [u8]
-    requires lined { Lined names.now starts.now n }
-    requires k_lt_n { k < n }
-    ensures { result.now ≡ (line_at names.now k).bytes }
-{
-    let from = usize::from(starts[k]);
-    let end = usize::from(starts[k + 1]) - 1;
-    &names[from..end]
+// The first n lines of a names list, each of them a name: where each begins.
+#[derive(Clone, Copy)]
+pub struct NameLines<'a> {
+    pub names: &'a [u8],
+    pub starts: &'a [u16; 256],
+    pub n: usize,
+    ghost lined: { Lined names.now starts.now n } by { Prim.hlevel props },
 }
 
-// The line among the first n whose name is equal to this; b is the name's bucket.
-pub fn find_name(
-    names: &[u8],
-    starts: &[u16; 256],
-    heads: &[u16; 512],
-    next: &[u16; 256],
-    n: usize,
-    b: usize,
-    name: &[u8],
-) -> Option<usize>
-    requires sought { Sought names.now starts.now heads.now next.now n name.now b }
-    requires name_value { all_inner name.now ≡ true }
-    ensures { result ≡ name_found names.now n name.now }
-{
-    let mut p = usize::from(heads[b]);
-    while 0 < p {
-        let k = p - 1;
-        if same_name(name_at(names, starts, n, k), name) {
-            return Some(k);
-        }
-        p = usize::from(next[k]);
+impl<'a> NameLines<'a> {
+    // The name on a line, as a part of the list.
+    pub fn name(&self, k: usize) -> &'a [u8]
+        requires { k < self.now.n }
+        ensures { result.now ≡ (line_at self.now.names.now k).bytes }
+    {
+        let from = usize::from(self.starts[k]);
+        let end = usize::from(self.starts[k + 1]) - 1;
+        &self.names[from..end]
     }
-    None
+}
+
+// Lines, no two of which have equal names, and the index of their names, by hashes that begin with a seed.
+#[derive(Clone, Copy)]
+pub struct NamesIndex<'a> {
+    pub lines: NameLines<'a>,
+    pub heads: &'a [u16; 512],
+    pub next: &'a [u16; 256],
+    pub seed: u64,
+    ghost indexed: { NamesIndexed seed lines.names.now lines.starts.now heads.now next.now lines.n } by { Prim.hlevel props },
+}
+
+impl<'a> NamesIndex<'a> {
+    // The line whose name is equal to this; b is the name's bucket.
+    pub fn find(&self, b: usize, name: &[u8]) -> Option<usize>
+        requires hashed { (b ≡ hash_of self.now.seed name.now) × (b < 512) }
+        requires name_value { all_inner name.now ≡ true }
+        ensures { result ≡ name_found self.now.lines.names.now self.now.lines.n name.now }
+    {
+        let mut p = usize::from(self.heads[b]);
+        while 0 < p {
+            let k = p - 1;
+            if same_name(self.lines.name(k), name) {
+                return Some(k);
+            }
+            p = usize::from(self.next[k]);
+        }
+        None
+    }
+}
+
+// A names list that keeps to the rules: all its lines, and their index.
+#[derive(Clone, Copy)]
+pub struct NamesList<'a> {
+    pub index: NamesIndex<'a>,
+    ghost whole: { index.lines.n ≡ how_many_names index.lines.names.now } by { Prim.hlevel props },
 }
 
 // How many names the list has, or refusal 17 at the first faulty line. Where there is none, `starts` then holds where each line begins, and `heads`
@@ -253,7 +275,18 @@ pub fn check_names(
             return Err(refuse(Kind::FaultyNames, n as u64));
         };
         let b = stretch.bucket;
-        if let Some(_) = find_name(names, &*starts, &*heads, &*next, n, b, &names[at..end]) {
+        let lines = NameLines {
+            names,
+            starts: &*starts,
+            n,
+        };
+        let index = NamesIndex {
+            lines,
+            heads: &*heads,
+            next: &*next,
+            seed,
+        };
+        if index.find(b, &names[at..end]).is_some() {
             return Err(refuse(Kind::FaultyNames, n as u64));
         }
         next[n] = heads[b];
