@@ -1,12 +1,13 @@
 // Names lists: refusal 17, and the line with a name.
 #![tactic(auto)]
 
-ghost use Rattle.std.specs.Prelude.{◌≡◌, true, ◌+◌, ◌<◌, ◌≤◌, length, drop};
+ghost use Rattle.std.specs.Prelude.{◌≡◌, true, ◌+◌, ◌<◌, ◌≤◌, length, drop, IfOk};
 ghost use Rattle.std.proofs.Props.{props};
-ghost use Rattle.model.specs.Names.{is_letter, is_name_byte, all_name_bytes, same_name, line_at, how_many_names};
+ghost use Rattle.model.specs.Answers.{Outcome};
+ghost use Rattle.model.specs.Names.{is_letter, is_name_byte, all_name_bytes, same_name, line_at, how_many_names, names_then};
 ghost use Rattle.chains.specs.Chains.{Clear};
 ghost use Rattle.words.specs.Words.{is_list_byte};
-ghost use Rattle.names.specs.NamesIndex.{caseless, all_inner, stretch, front_of, mixed, bucket_at, hash_of, StretchFrom, OnlyListBytes, name_end, name_found, Lined, NamesIndexed, Started, NamesAnswer};
+ghost use Rattle.names.specs.NamesIndex.{caseless, all_inner, stretch, front_of, mixed, bucket_at, hash_of, StretchFrom, OnlyListBytes, name_end, name_found, Lined, NamesIndexed, Started, names_check_then, NamesAnswer};
 
 use chains::mixed;
 use model::{Kind, Refusal, refuse};
@@ -114,7 +115,7 @@ fn bucket(h: u64) -> usize
 
 // A seed for the hash, from the list's bytes, sixteen at a time, up to the 6,368th. No answer depends on it; names that share a bucket by one seed
 // do not by another.
-pub fn list_seed(names: &[u8]) -> u64 {
+fn list_seed(names: &[u8]) -> u64 {
     let mut seed = 0;
     for i in (0..6368).step_by(16) {
         if names.len() < i + 16 {
@@ -250,53 +251,93 @@ pub struct NamesList<'a> {
     ghost whole: { index.lines.n ≡ how_many_names index.lines.names.now } by { Prim.hlevel props },
 }
 
-// How many names the list has, or refusal 17 at the first faulty line. Where there is none, `starts` then holds where each line begins, and `heads`
-// and `next` index the names.
-pub fn check_names(
-    names: &[u8],
-    seed: u64,
-    starts: &mut [u16; 256],
-    heads: &mut [u16; 512],
-    next: &mut [u16; 256],
-) -> Result<usize, Refusal>
-    requires started { Started starts.old }
-    requires clear { Clear 512 256 heads.old next.old }
-    ensures { NamesAnswer seed names.now starts.new heads.new next.new result }
-{
-    let clean = only_list_bytes(names);
-    let mut n = 0;
-    let mut at = 0;
-    while at < names.len() {
-        if 255 <= n {
-            return Err(refuse(Kind::FaultyNames, n as u64));
+// Room for where the lines of a names list begin, and for the index of their names.
+#[derive(Drop)]
+pub struct NamesRoom {
+    pub starts: [u16; 256],
+    pub heads: [u16; 512],
+    pub next: [u16; 256],
+}
+
+impl NamesRoom {
+    // Room with nothing in it.
+    pub fn new() -> NamesRoom
+        ensures { Started result.starts × Clear 512 256 result.heads result.next }
+    {
+        NamesRoom {
+            starts: [0; 256],
+            heads: [0; 512],
+            next: [0; 256],
         }
-        let stretch = stretch_at(names, at, seed);
-        let Some(end) = name_end(names, clean, at, stretch.end) else {
-            return Err(refuse(Kind::FaultyNames, n as u64));
-        };
-        let b = stretch.bucket;
+    }
+
+    // How many names the list has, or refusal 17 at the first faulty line. Where there is none, all its lines are then known.
+    fn fill(&mut self, names: &[u8], seed: u64) -> Result<usize, Refusal>
+        requires { Started self.old.starts × Clear 512 256 self.old.heads self.old.next }
+        ensures { NamesAnswer seed names.now self.new.starts self.new.heads self.new.next result }
+    {
+        let NamesRoom {
+            starts,
+            heads,
+            next,
+        } = self;
+        let clean = only_list_bytes(names);
+        let mut n = 0;
+        let mut at = 0;
+        while at < names.len() {
+            if 255 <= n {
+                return Err(refuse(Kind::FaultyNames, n as u64));
+            }
+            let stretch = stretch_at(names, at, seed);
+            let Some(end) = name_end(names, clean, at, stretch.end) else {
+                return Err(refuse(Kind::FaultyNames, n as u64));
+            };
+            let b = stretch.bucket;
+            let lines = NameLines {
+                names,
+                starts: &*starts,
+                n,
+            };
+            let index = NamesIndex {
+                lines,
+                heads: &*heads,
+                next: &*next,
+                seed,
+            };
+            if index.find(b, &names[at..end]).is_some() {
+                return Err(refuse(Kind::FaultyNames, n as u64));
+            }
+            next[n] = heads[b];
+            n += 1;
+            heads[b] = n as u16;
+            at = end + 1;
+            starts[n] = at as u16;
+        }
+        if n == 0 {
+            return Err(refuse(Kind::FaultyNames, 0));
+        }
+        Ok(n)
+    }
+
+    // The list, if it keeps to the rules, or refusal 17 at the first faulty line.
+    pub fn check<'a>(&'a mut self, names: &'a [u8]) -> Result<NamesList<'a>, Refusal>
+        requires { Started self.old.starts × Clear 512 256 self.old.heads self.old.next }
+        ensures decided { (o : Outcome) → names_check_then result o ≡ names_then names.now o }
+        ensures of_names { IfOk result (λ l. l.index.lines.names.now ≡ names.now) }
+    {
+        let seed = list_seed(names);
+        let n = self.fill(names, seed)?;
         let lines = NameLines {
             names,
-            starts: &*starts,
+            starts: &self.starts,
             n,
         };
         let index = NamesIndex {
             lines,
-            heads: &*heads,
-            next: &*next,
+            heads: &self.heads,
+            next: &self.next,
             seed,
         };
-        if index.find(b, &names[at..end]).is_some() {
-            return Err(refuse(Kind::FaultyNames, n as u64));
-        }
-        next[n] = heads[b];
-        n += 1;
-        heads[b] = n as u16;
-        at = end + 1;
-        starts[n] = at as u16;
+        Ok(NamesList { index })
     }
-    if n == 0 {
-        return Err(refuse(Kind::FaultyNames, 0));
-    }
-    Ok(n)
 }
