@@ -103,7 +103,7 @@ pub record Started (starts : List ℕ) : Type 0 where
   pub first : get_or starts 0 0 ≡ 0
 
 -- the refusal, or what follows where the list keeps to the rules
-abbrev pub names_check_then : Result ℕ Refusal → Outcome → Outcome
+abbrev pub names_check_then : {A : Type 0} → Result A Refusal → Outcome → Outcome
 names_check_then (Ok n) otherwise = otherwise
 names_check_then (Err r) otherwise = refused_by r
 
