@@ -7,38 +7,38 @@ ghost use Rattle.model.specs.Number.{number_outcome};
 ghost use Rattle.model.specs.TermOperations.{bytes_of, write_term_outcome};
 ghost use Rattle.term.specs.Written.{Put};
 ghost use Rattle.line.specs.Lines.{decimal, printed, answer_number, answer_term, answer_to, output_for};
-ghost use Rattle.line.specs.Held.{with_digit, longest_line, Holds, Holding, Begins, part, Prints};
+ghost use Rattle.line.specs.Held.{with_digit, longest_line, Holding, Begins, part};
 
 use model::{Answer, Kind, Refusal, refuse};
 use term::put_bytes;
 
+// What a program answers by: a table and a names list.
+#[derive(Clone, Copy)]
+pub struct Lists<'a> {
+    pub states: u64,
+    pub rows: &'a [u16],
+    pub accepting: &'a [u16],
+    pub names: &'a [u8],
+}
+
 // The most bytes that answer one line.
 const LONGEST_LINE: usize = 53249;
 
-// A line so far: how many bytes it has (4,097 stands for more), and the number that they make while all are digits. The largest number of
-// 64 bits, which is below no total, stands for every number from there up.
-#[derive(Clone, Copy)]
+// A line so far: its first 4,096 bytes, how many bytes it has (4,097 stands for more), and the number that they make while all are digits. The
+// largest number of 64 bits, which is below no total, stands for every number from there up.
+#[derive(Drop)]
 pub struct Line {
+    text: [u8; 4096],
     len: usize,
     number: Option<u64>,
+    ghost holding: { ∥ Holding text len number ∥₁ },
 }
 
-// After bytes were fed: the line so far, the place of the next byte to feed, and how many bytes are to be printed.
+// After bytes were fed: the place of the next byte to feed, and how many bytes are to be printed.
 #[derive(Clone, Copy)]
 pub struct Fed {
-    pub line: Line,
     pub next: usize,
     pub count: usize,
-}
-
-// A line without bytes.
-pub fn empty_line() -> Line
-    ensures { (text : List ℕ) → length text ≡ 4096 → Holds [] result text }
-{
-    Line {
-        len: 0,
-        number: Some(0),
-    }
 }
 
 // The number that digits make, with one byte more; none where that is no digit.
@@ -52,20 +52,48 @@ fn with_digit(number: Option<u64>, b: u8) -> Option<u64>
     Some(n.saturating_mul(10).saturating_add(u64::from(b - b'0')))
 }
 
-// Adds a byte to the line; `text` keeps the first 4,096.
-fn feed(line: Line, b: u8, text: &mut [u8]) -> Line
-    requires { Holding line text.old }
-    ensures { (held : List ℕ) → Holds held line text.old → (b ≡ 10 → ⊥) → Holds (held ++ b ∷ []) result text.new }
-{
-    let len = line.len;
-    let number = with_digit(line.number, b);
-    if 4096 <= len {
-        return Line { len: 4097, number };
+impl Line {
+    ghost use Rattle.line.specs.Feeding.{Holds};
+
+    // A line without bytes.
+    pub fn new() -> Line
+        ensures { Holds [] result }
+    {
+        Line {
+            text: [0; 4096],
+            len: 0,
+            number: Some(0),
+        }
     }
-    text[len] = b;
-    Line {
-        len: len + 1,
-        number,
+
+    // Makes it a line without bytes.
+    fn clear(&mut self)
+        ensures { Holds [] self.new }
+    {
+        self.len = 0;
+        self.number = Some(0);
+    }
+
+    // Adds a byte that ends no line; `text` keeps the first 4,096.
+    fn feed(&mut self, b: u8)
+        requires { b ≡ 10 → ⊥ }
+        ensures { (held : List ℕ) → Holds held self.old → Holds (held ++ b ∷ []) self.new }
+    {
+        let len = self.len;
+        self.number = with_digit(self.number, b);
+        if 4096 <= len {
+            self.len = 4097;
+            return;
+        }
+        self.text[len] = b;
+        self.len = len + 1;
+    }
+
+    // The number that the line is, if it is one.
+    fn number_of(&self) -> Option<u64>
+        ensures { result ≡ (if ltb 0 self.now.len then self.now.number else None) }
+    {
+        if 0 < self.len { self.number } else { None }
     }
 }
 
@@ -118,203 +146,139 @@ fn put_term(names: &[u8], tree: &[u16], out: &mut [u8]) -> usize
     }
 }
 
-// Puts the output line that answers a number; the tree is written into `tree`.
-fn answer_number(
-    states: u64,
-    rows: &[u16],
-    accepting: &[u16],
-    names: &[u8],
-    number: u64,
-    tree: &mut [u16],
-    out: &mut [u8],
-) -> usize
-    requires tree_len { length tree.old ≡ 4096 }
-    requires longest_line_in_bounds { longest_line ≤ length out.old }
-    ensures { Begins out.new (answer_number states rows.now accepting.now names.now number) result }
-{
-    match operations::write(states, rows, accepting, number, tree) {
-        Ok(count) => {
-            let n = count as usize;
-            put_term(names, &tree[..n], out)
+impl Lists<'_> {
+    ghost use Rattle.line.specs.Feeding.{Holds, Prints};
+
+    // Puts the output line that answers a number; the tree is written into `tree`.
+    fn answer_number(&self, number: u64, tree: &mut [u16], out: &mut [u8]) -> usize
+        requires tree_len { length tree.old ≡ 4096 }
+        requires longest_line_in_bounds { longest_line ≤ length out.old }
+        ensures { Begins out.new (answer_number self.now.states self.now.rows.now self.now.accepting.now self.now.names.now number) result }
+    {
+        match operations::write(self.states, self.rows, self.accepting, number, tree) {
+            Ok(count) => {
+                let n = count as usize;
+                put_term(self.names, &tree[..n], out)
+            }
+            Err(r) => put_refusal(r, out),
         }
-        Err(r) => put_refusal(r, out),
     }
-}
 
-// Puts the output line of a tree's number.
-fn answer_tree(states: u64, rows: &[u16], accepting: &[u16], tree: &[u16], out: &mut [u8]) -> usize
-    requires { longest_line ≤ length out.old }
-    ensures { Begins out.new (printed (number_outcome states rows.now accepting.now tree.now) decimal) result }
-{
-    match operations::number(states, rows, accepting, tree) {
-        Ok(number) => put_number(number, out),
-        Err(r) => put_refusal(r, out),
-    }
-}
-
-// Puts the output line that answers a term; the tree is read into `tree`.
-fn answer_term(
-    states: u64,
-    rows: &[u16],
-    accepting: &[u16],
-    names: &[u8],
-    text: &[u8],
-    tree: &mut [u16],
-    out: &mut [u8],
-) -> usize
-    requires tree_len { length tree.old ≡ 4096 }
-    requires longest_line_in_bounds { longest_line ≤ length out.old }
-    ensures { Begins out.new (answer_term states rows.now accepting.now names.now text.now) result }
-{
-    match term::read_term(names, text, tree) {
-        Ok(count) => {
-            let n = count as usize;
-            answer_tree(states, rows, accepting, &tree[..n], out)
+    // Puts the output line of a tree's number.
+    fn answer_tree(&self, tree: &[u16], out: &mut [u8]) -> usize
+        requires { longest_line ≤ length out.old }
+        ensures { Begins out.new (printed (number_outcome self.now.states self.now.rows.now self.now.accepting.now tree.now) decimal) result }
+    {
+        match operations::number(self.states, self.rows, self.accepting, tree) {
+            Ok(number) => put_number(number, out),
+            Err(r) => put_refusal(r, out),
         }
-        Err(r) => put_refusal(r, out),
     }
-}
 
-// The number that the line is, if it is one.
-fn number_of(line: Line) -> Option<u64>
-    ensures { result ≡ (if ltb 0 line.len then line.number else None) }
-{
-    if 0 < line.len { line.number } else { None }
-}
-
-// Puts the output line that answers an input line; `tree` is a list to work in.
-fn answer(
-    states: u64,
-    rows: &[u16],
-    accepting: &[u16],
-    names: &[u8],
-    line: Line,
-    text: &[u8],
-    tree: &mut [u16],
-    out: &mut [u8],
-) -> usize
-    requires holding { Holding line text.now }
-    requires tree_len { (length tree.old ≡ 4096) × (longest_line ≤ length out.old) }
-    ensures { (held : List ℕ) → Holds held line text.now
-        → Begins out.new (answer_to states rows.now accepting.now names.now held) result }
-{
-    let n = line.len;
-    if let Some(number) = number_of(line) {
-        return answer_number(states, rows, accepting, names, number, tree, out);
-    }
-    if 4096 < n {
-        return put_refusal(refuse(Kind::TextTooLong, 0), out);
-    }
-    answer_term(states, rows, accepting, names, &text[..n], tree, out)
-}
-
-// Feeds the bytes from a place on, up to the end of a line or of the bytes. Where a line has ended, puts the output line that answers
-// it; `tree` is a list to work in.
-fn feed_line(
-    states: u64,
-    rows: &[u16],
-    accepting: &[u16],
-    names: &[u8],
-    mut line: Line,
-    bytes: &[u8],
-    from: usize,
-    text: &mut [u8],
-    tree: &mut [u16],
-    out: &mut [u8],
-) -> Fed
-    requires holding { Holding line text.old }
-    requires from_in_bounds { (from < length bytes.now) × (length tree.old ≡ 4096) × (longest_line ≤ length out.old) }
-    ensures from_lt_next { (from < result.next) × (result.next ≤ length bytes.now) }
-    ensures by_index { (held : List ℕ) → Holds held line text.old
-        → Prints states rows.now accepting.now names.now held
-        (part bytes.now from result.next) result.line text.new out.new result.count }
-{
-    for i in from..bytes.len() {
-        let b = bytes[i];
-        if b == b'\n' {
-            let n = answer(states, rows, accepting, names, line, text, tree, out);
-            return Fed {
-                line: empty_line(),
-                next: i + 1,
-                count: n,
-            };
+    // Puts the output line that answers a term; the tree is read into `tree`.
+    fn answer_term(&self, text: &[u8], tree: &mut [u16], out: &mut [u8]) -> usize
+        requires tree_len { length tree.old ≡ 4096 }
+        requires longest_line_in_bounds { longest_line ≤ length out.old }
+        ensures { Begins out.new (answer_term self.now.states self.now.rows.now self.now.accepting.now self.now.names.now text.now) result }
+    {
+        match term::read_term(self.names, text, tree) {
+            Ok(count) => {
+                let n = count as usize;
+                self.answer_tree(&tree[..n], out)
+            }
+            Err(r) => put_refusal(r, out),
         }
-        line = feed(line, b, text);
     }
-    Fed {
-        line,
-        next: bytes.len(),
-        count: 0,
-    }
-}
 
-// Feeds the bytes from a place on, line after line, to the end of the bytes or until the list may have no room for one answer more; puts what is to
-// be printed, one answer after another.
-pub fn gather(
-    states: u64,
-    rows: &[u16],
-    accepting: &[u16],
-    names: &[u8],
-    mut line: Line,
-    bytes: &[u8],
-    from: usize,
-    text: &mut [u8],
-    out: &mut [u8],
-) -> Fed
-    requires holding { Holding line text.old }
-    requires from_in_bounds { (from < length bytes.now) × (longest_line ≤ length out.old) }
-    ensures from_lt_next { (from < result.next) × (result.next ≤ length bytes.now) }
-    ensures by_index { (held : List ℕ) → Holds held line text.old
-        → Prints states rows.now accepting.now names.now held
-        (part bytes.now from result.next) result.line text.new out.new result.count }
-{
-    let mut tree = [0u16; 4096];
-    let mut i = from;
-    let mut filled = 0;
-    while i < bytes.len() && LONGEST_LINE <= out.len() - filled {
-        let fed = feed_line(
-            states,
-            rows,
-            accepting,
-            names,
-            line,
-            bytes,
-            i,
-            text,
-            &mut tree,
-            &mut out[filled..],
-        );
-        line = fed.line;
-        i = fed.next;
-        filled += fed.count;
+    // Puts the output line that answers an input line; `tree` is a list to work in.
+    fn answer(&self, line: &Line, tree: &mut [u16], out: &mut [u8]) -> usize
+        requires tree_len { (length tree.old ≡ 4096) × (longest_line ≤ length out.old) }
+        ensures within { result ≤ length out.new }
+        ensures begins { (held : List ℕ) → Holds held line.now
+            → Begins out.new (answer_to self.now.states self.now.rows.now self.now.accepting.now self.now.names.now held) result }
+    {
+        let n = line.len;
+        if let Some(number) = line.number_of() {
+            return self.answer_number(number, tree, out);
+        }
+        if 4096 < n {
+            return put_refusal(refuse(Kind::TextTooLong, 0), out);
+        }
+        self.answer_term(&line.text[..n], tree, out)
     }
-    Fed {
-        line,
-        next: i,
-        count: filled,
-    }
-}
 
-// At the end of the input: puts the output line that answers a last line without byte 10, or nothing where that line is empty;
-// gives how many bytes are to be printed.
-pub fn last_line(
-    states: u64,
-    rows: &[u16],
-    accepting: &[u16],
-    names: &[u8],
-    line: Line,
-    text: &[u8],
-    out: &mut [u8],
-) -> usize
-    requires holding { Holding line text.now }
-    requires longest_line_in_bounds { longest_line ≤ length out.old }
-    ensures { (held : List ℕ) → Holds held line text.now
-        → Begins out.new (output_for states rows.now accepting.now names.now held) result }
-{
-    let n = line.len;
-    if n == 0 {
-        return 0;
+    // Feeds the bytes from a place on, up to the end of a line or of the bytes. Where a line has ended, puts the output line that answers
+    // it; `tree` is a list to work in.
+    fn feed_line(
+        &self,
+        line: &mut Line,
+        bytes: &[u8],
+        from: usize,
+        tree: &mut [u16],
+        out: &mut [u8],
+    ) -> Fed
+        requires from_in_bounds { (from < length bytes.now) × (length tree.old ≡ 4096) × (longest_line ≤ length out.old) }
+        ensures from_lt_next { (from < result.next) × (result.next ≤ length bytes.now) }
+        ensures within { result.count ≤ length out.new }
+        ensures by_index { (held : List ℕ) → Holds held line.old
+            → Prints self.now.states self.now.rows.now self.now.accepting.now self.now.names.now held
+            (part bytes.now from result.next) line.new out.new result.count }
+    {
+        for i in from..bytes.len() {
+            let b = bytes[i];
+            if b == b'\n' {
+                let n = self.answer(line, tree, out);
+                line.clear();
+                return Fed {
+                    next: i + 1,
+                    count: n,
+                };
+            }
+            line.feed(b);
+        }
+        Fed {
+            next: bytes.len(),
+            count: 0,
+        }
     }
-    let mut tree = [0u16; 4096];
-    answer(states, rows, accepting, names, line, text, &mut tree, out)
+
+    // Feeds the bytes from a place on, line after line, to the end of the bytes or until the list may have no room for one answer more; puts what is to
+    // be printed, one answer after another.
+    pub fn gather(&self, line: &mut Line, bytes: &[u8], from: usize, out: &mut [u8]) -> Fed
+        requires from_in_bounds { (from < length bytes.now) × (longest_line ≤ length out.old) }
+        ensures from_lt_next { (from < result.next) × (result.next ≤ length bytes.now) }
+        ensures within { result.count ≤ length out.new }
+        ensures by_index { (held : List ℕ) → Holds held line.old
+            → Prints self.now.states self.now.rows.now self.now.accepting.now self.now.names.now held
+            (part bytes.now from result.next) line.new out.new result.count }
+    {
+        let mut tree = [0u16; 4096];
+        let mut i = from;
+        let mut filled = 0;
+        while i < bytes.len() && LONGEST_LINE <= out.len() - filled {
+            let fed = self.feed_line(line, bytes, i, &mut tree, &mut out[filled..]);
+            i = fed.next;
+            filled += fed.count;
+        }
+        Fed {
+            next: i,
+            count: filled,
+        }
+    }
+
+    // At the end of the input: puts the output line that answers a last line without byte 10, or nothing where that line is empty;
+    // gives how many bytes are to be printed.
+    pub fn last_line(&self, line: &Line, out: &mut [u8]) -> usize
+        requires longest_line_in_bounds { longest_line ≤ length out.old }
+        ensures within { result ≤ length out.new }
+        ensures begins { (held : List ℕ) → Holds held line.now
+            → Begins out.new (output_for self.now.states self.now.rows.now self.now.accepting.now self.now.names.now held) result }
+    {
+        let n = line.len;
+        if n == 0 {
+            return 0;
+        }
+        let mut tree = [0u16; 4096];
+        self.answer(line, &mut tree, out)
+    }
 }

@@ -8,8 +8,10 @@ ghost use Rattle.counts.specs.States.{held, ArgsPlaced};
 ghost use Rattle.index.specs.Hash.{Multiplier};
 ghost use Rattle.table.specs.Checked.{Empty, CrowdReady, RowsReady, RowsChecked, EntriesChecked, total_or11, StatesReady, StatesAnswer, Blank, CheckAnswer};
 
+use counts::ByTarget;
 use index::{TakeError, two};
 use model::{Answer, Kind, Refusal, refuse};
+use rows::Rows;
 
 // How many rows there are, and the multiplier of their index.
 #[derive(Clone, Copy)]
@@ -139,9 +141,11 @@ fn check_states(
         first.new counts.new sums.new result }
 {
     counts::chain_rows(pool, words, first);
-    counts::count_states(states, pool, words, first, counts, marks, sums);
+    let rows = Rows { pool, words };
+    let chains = ByTarget { rows, first };
+    chains.count_states(states, counts, marks, sums);
     used::settle(
-        prepare, states, pool, accepting, words, first, counts, marks, used, sums,
+        prepare, states, accepting, &chains, counts, marks, used, sums,
     )?;
     total_of(accepting, counts)
 }

@@ -1,7 +1,0 @@
-use mathlib.Core.Path.{◌≡◌}
-use lib.ListN.{length}
-use Rattle.line.proofs.Walking.{Walks}
-use Rattle.line.proofs.feed_line.Given as goal
-
-abbrev pub invariant-loop-i : goal.invariant-loop-i
-invariant-loop-i l = Walks l.bytes l.from l.initial.text l.initial.line l.text l.line l.i × (length l.text ≡ length l.initial.text) × (length l.tree ≡ length l.initial.tree) × (length l.out ≡ length l.initial.out)
