@@ -216,6 +216,7 @@ impl<'a> NameLines<'a> {
 }
 
 // Lines, no two of which have equal names, and the index of their names, by hashes that begin with a seed.
+// (The chains of a bucket are links in an array, and not a map: the library has no heap.)
 #[derive(Clone, Copy)]
 pub struct NamesIndex<'a> {
     pub lines: NameLines<'a>,
@@ -282,6 +283,7 @@ impl NamesRoom {
             next,
         } = self;
         let clean = only_list_bytes(names);
+        // not a `for`: each line's end says where the next line begins
         let mut n = 0;
         let mut at = 0;
         while at < names.len() {
