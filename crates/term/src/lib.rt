@@ -266,7 +266,8 @@ pub fn put_bytes(text: &mut [u8], at: usize, bytes: &[u8]) -> usize
     after
 }
 
-// Puts the bytes that an entry gives at a place; gives the place after them.
+// Puts the bytes that an entry gives at a place; gives the place after them. The mark is 0 before the first entry, as in the definition: an Option
+// would be one more `match` for each entry, and say no more.
 fn put_entry_text(lines: &NameLines, mark: u8, e: u16, text: &mut [u8], at: usize) -> usize
     requires e_le_n { e ≤ lines.now.n }
     requires e_in_bounds { at + length (entry_text lines.now.names.now mark e) ≤ length text.old }
