@@ -5,7 +5,8 @@ use mathlib.Core.List.{List, [], ◌++◌}
 use native.Mathlib.Omega.{arith}
 use lib.ListN.{length, take, drop, length-append, length-take, length-drop}
 use lib.Seq.{length-take-le, take-append-le, take-append-add, drop-drop, take-add}
-use Rattle.line.specs.Held.{Holds, Holding, part, held_after, put_for, Prints}
+use Rattle.line.specs.Held.{part, held_after, put_for}
+use Rattle.line.specs.Feeding.{Holds, Prints}
 use Rattle.line.specs.declared.Line.{Line}
 use Rattle.line.proofs.Output.{held_more, put_more}
 
@@ -31,17 +32,17 @@ fits_behind : (out ys rest : List ℕ) (n c : ℕ) → n ≤ length out → c �
 fits_behind out ys rest n c l m = simp (length-append, length-take-le n out l) (omega arith)
 
 -- the bytes up to i are fed, and the list begins with what they put
-pub record Gathers (states : ℕ) (rows accepting names bytes : List ℕ) (from : ℕ) (text₀ : List ℕ) (line₀ : Line) (text out : List ℕ) (line : Line) (i n : ℕ) : Type 0 where
+pub record Gathers (states : ℕ) (rows accepting names bytes : List ℕ) (from : ℕ) (line₀ : Line) (out : List ℕ) (line : Line) (i n : ℕ) : Type 0 where
   pub after : from ≤ i
   pub within : i ≤ length bytes
   pub counted : n ≤ length out
   pub moved : 0 < n → from < i
-  pub prints : (held : List ℕ) → Holds held line₀ text₀ → Prints states rows accepting names held (part bytes from i) line text out n
+  pub prints : (held : List ℕ) → Holds held line₀ → Prints states rows accepting names held (part bytes from i) line out n
 
-pub gathers_first : (states : ℕ) (rows accepting names bytes : List ℕ) (from : ℕ) (text out : List ℕ) (line : Line) → from ≤ length bytes
-    → Gathers states rows accepting names bytes from text line text out line from 0
+pub gathers_first : (states : ℕ) (rows accepting names bytes : List ℕ) (from : ℕ) (out : List ℕ) (line : Line) → from ≤ length bytes
+    → Gathers states rows accepting names bytes from line out line from 0
 unfolding held_after put_for
-gathers_first states rows accepting names bytes from text out line l = record {
+gathers_first states rows accepting names bytes from out line l = record {
   after = omega arith;
   within = l;
   counted = omega arith;
@@ -49,15 +50,12 @@ gathers_first states rows accepting names bytes from text out line l = record {
   prints = λ held x. rw (part_none bytes from) (record { holds = x; puts = record { within = omega arith; front = refl } });
 }
 
-module _ {states : ℕ} {rows accepting names bytes : List ℕ} {from : ℕ} {text₀ : List ℕ} {line₀ : Line} {text out : List ℕ} {line : Line} {i n : ℕ}
-    (g : Gathers states rows accepting names bytes from text₀ line₀ text out line i n) where
-  pub gathers_holding : Holding line₀ text₀ → Holding line text
-  gathers_holding h = record { bytes = _; holds = (g.prints h.bytes h.holds).holds }
-
-  pub gathers_more : (line' : Line) (text' ys rest : List ℕ) (next c : ℕ) → i < next → next ≤ length bytes → c ≤ length ys
-      → ((held : List ℕ) → Holds held line text → Prints states rows accepting names held (part bytes i next) line' text' ys c)
-      → Gathers states rows accepting names bytes from text₀ line₀ text' (take n out ++ (ys ++ rest)) line' next (n + c)
-  gathers_more line' text' ys rest next c m l w f = record {
+module _ {states : ℕ} {rows accepting names bytes : List ℕ} {from : ℕ} {line₀ : Line} {out : List ℕ} {line : Line} {i n : ℕ}
+    (g : Gathers states rows accepting names bytes from line₀ out line i n) where
+  pub gathers_more : (line' : Line) (ys rest : List ℕ) (next c : ℕ) → i < next → next ≤ length bytes → c ≤ length ys
+      → ((held : List ℕ) → Holds held line → Prints states rows accepting names held (part bytes i next) line' ys c)
+      → Gathers states rows accepting names bytes from line₀ (take n out ++ (ys ++ rest)) line' next (n + c)
+  gathers_more line' ys rest next c m l w f = record {
     after = omega (arith, g.after);
     within = l;
     counted = fits_behind out ys rest n c g.counted w;

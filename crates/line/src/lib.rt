@@ -7,7 +7,7 @@ ghost use Rattle.model.specs.Number.{number_outcome};
 ghost use Rattle.model.specs.TermOperations.{bytes_of, write_term_outcome};
 ghost use Rattle.term.specs.Written.{Put};
 ghost use Rattle.line.specs.Lines.{decimal, printed, answer_number, answer_term, answer_to, output_for};
-ghost use Rattle.line.specs.Held.{with_digit, longest_line, Holds, Holding, Begins, part, Prints};
+ghost use Rattle.line.specs.Held.{with_digit, longest_line, Holding, Begins, part};
 
 use model::{Answer, Kind, Refusal, refuse};
 use term::put_bytes;
@@ -24,30 +24,21 @@ pub struct Lists<'a> {
 // The most bytes that answer one line.
 const LONGEST_LINE: usize = 53249;
 
-// A line so far: how many bytes it has (4,097 stands for more), and the number that they make while all are digits. The largest number of
-// 64 bits, which is below no total, stands for every number from there up.
-#[derive(Clone, Copy)]
+// A line so far: its first 4,096 bytes, how many bytes it has (4,097 stands for more), and the number that they make while all are digits. The
+// largest number of 64 bits, which is below no total, stands for every number from there up.
+#[derive(Drop)]
 pub struct Line {
+    text: [u8; 4096],
     len: usize,
     number: Option<u64>,
+    ghost holding: { ∥ Holding text len number ∥₁ },
 }
 
-// After bytes were fed: the line so far, the place of the next byte to feed, and how many bytes are to be printed.
+// After bytes were fed: the place of the next byte to feed, and how many bytes are to be printed.
 #[derive(Clone, Copy)]
 pub struct Fed {
-    pub line: Line,
     pub next: usize,
     pub count: usize,
-}
-
-// A line without bytes.
-pub fn empty_line() -> Line
-    ensures { (text : List ℕ) → length text ≡ 4096 → Holds [] result text }
-{
-    Line {
-        len: 0,
-        number: Some(0),
-    }
 }
 
 // The number that digits make, with one byte more; none where that is no digit.
@@ -61,20 +52,48 @@ fn with_digit(number: Option<u64>, b: u8) -> Option<u64>
     Some(n.saturating_mul(10).saturating_add(u64::from(b - b'0')))
 }
 
-// Adds a byte to the line; `text` keeps the first 4,096.
-fn feed(line: Line, b: u8, text: &mut [u8]) -> Line
-    requires { Holding line text.old }
-    ensures { (held : List ℕ) → Holds held line text.old → (b ≡ 10 → ⊥) → Holds (held ++ b ∷ []) result text.new }
-{
-    let len = line.len;
-    let number = with_digit(line.number, b);
-    if 4096 <= len {
-        return Line { len: 4097, number };
+impl Line {
+    ghost use Rattle.line.specs.Feeding.{Holds};
+
+    // A line without bytes.
+    pub fn new() -> Line
+        ensures { Holds [] result }
+    {
+        Line {
+            text: [0; 4096],
+            len: 0,
+            number: Some(0),
+        }
     }
-    text[len] = b;
-    Line {
-        len: len + 1,
-        number,
+
+    // Makes it a line without bytes.
+    fn clear(&mut self)
+        ensures { Holds [] self.new }
+    {
+        self.len = 0;
+        self.number = Some(0);
+    }
+
+    // Adds a byte that ends no line; `text` keeps the first 4,096.
+    fn feed(&mut self, b: u8)
+        requires { b ≡ 10 → ⊥ }
+        ensures { (held : List ℕ) → Holds held self.old → Holds (held ++ b ∷ []) self.new }
+    {
+        let len = self.len;
+        self.number = with_digit(self.number, b);
+        if 4096 <= len {
+            self.len = 4097;
+            return;
+        }
+        self.text[len] = b;
+        self.len = len + 1;
+    }
+
+    // The number that the line is, if it is one.
+    fn number_of(&self) -> Option<u64>
+        ensures { result ≡ (if ltb 0 self.now.len then self.now.number else None) }
+    {
+        if 0 < self.len { self.number } else { None }
     }
 }
 
@@ -127,14 +146,9 @@ fn put_term(names: &[u8], tree: &[u16], out: &mut [u8]) -> usize
     }
 }
 
-// The number that the line is, if it is one.
-fn number_of(line: Line) -> Option<u64>
-    ensures { result ≡ (if ltb 0 line.len then line.number else None) }
-{
-    if 0 < line.len { line.number } else { None }
-}
-
 impl Lists<'_> {
+    ghost use Rattle.line.specs.Feeding.{Holds, Prints};
+
     // Puts the output line that answers a number; the tree is written into `tree`.
     fn answer_number(&self, number: u64, tree: &mut [u16], out: &mut [u8]) -> usize
         requires tree_len { length tree.old ≡ 4096 }
@@ -177,54 +191,52 @@ impl Lists<'_> {
     }
 
     // Puts the output line that answers an input line; `tree` is a list to work in.
-    fn answer(&self, line: Line, text: &[u8], tree: &mut [u16], out: &mut [u8]) -> usize
-        requires holding { Holding line text.now }
+    fn answer(&self, line: &Line, tree: &mut [u16], out: &mut [u8]) -> usize
         requires tree_len { (length tree.old ≡ 4096) × (longest_line ≤ length out.old) }
-        ensures { (held : List ℕ) → Holds held line text.now
+        ensures within { result ≤ length out.new }
+        ensures begins { (held : List ℕ) → Holds held line.now
             → Begins out.new (answer_to self.now.states self.now.rows.now self.now.accepting.now self.now.names.now held) result }
     {
         let n = line.len;
-        if let Some(number) = number_of(line) {
+        if let Some(number) = line.number_of() {
             return self.answer_number(number, tree, out);
         }
         if 4096 < n {
             return put_refusal(refuse(Kind::TextTooLong, 0), out);
         }
-        self.answer_term(&text[..n], tree, out)
+        self.answer_term(&line.text[..n], tree, out)
     }
 
     // Feeds the bytes from a place on, up to the end of a line or of the bytes. Where a line has ended, puts the output line that answers
     // it; `tree` is a list to work in.
     fn feed_line(
         &self,
-        mut line: Line,
+        line: &mut Line,
         bytes: &[u8],
         from: usize,
-        text: &mut [u8],
         tree: &mut [u16],
         out: &mut [u8],
     ) -> Fed
-        requires holding { Holding line text.old }
         requires from_in_bounds { (from < length bytes.now) × (length tree.old ≡ 4096) × (longest_line ≤ length out.old) }
         ensures from_lt_next { (from < result.next) × (result.next ≤ length bytes.now) }
-        ensures by_index { (held : List ℕ) → Holds held line text.old
+        ensures within { result.count ≤ length out.new }
+        ensures by_index { (held : List ℕ) → Holds held line.old
             → Prints self.now.states self.now.rows.now self.now.accepting.now self.now.names.now held
-            (part bytes.now from result.next) result.line text.new out.new result.count }
+            (part bytes.now from result.next) line.new out.new result.count }
     {
         for i in from..bytes.len() {
             let b = bytes[i];
             if b == b'\n' {
-                let n = self.answer(line, text, tree, out);
+                let n = self.answer(line, tree, out);
+                line.clear();
                 return Fed {
-                    line: empty_line(),
                     next: i + 1,
                     count: n,
                 };
             }
-            line = feed(line, b, text);
+            line.feed(b);
         }
         Fed {
-            line,
             next: bytes.len(),
             count: 0,
         }
@@ -232,32 +244,23 @@ impl Lists<'_> {
 
     // Feeds the bytes from a place on, line after line, to the end of the bytes or until the list may have no room for one answer more; puts what is to
     // be printed, one answer after another.
-    pub fn gather(
-        &self,
-        mut line: Line,
-        bytes: &[u8],
-        from: usize,
-        text: &mut [u8],
-        out: &mut [u8],
-    ) -> Fed
-        requires holding { Holding line text.old }
+    pub fn gather(&self, line: &mut Line, bytes: &[u8], from: usize, out: &mut [u8]) -> Fed
         requires from_in_bounds { (from < length bytes.now) × (longest_line ≤ length out.old) }
         ensures from_lt_next { (from < result.next) × (result.next ≤ length bytes.now) }
-        ensures by_index { (held : List ℕ) → Holds held line text.old
+        ensures within { result.count ≤ length out.new }
+        ensures by_index { (held : List ℕ) → Holds held line.old
             → Prints self.now.states self.now.rows.now self.now.accepting.now self.now.names.now held
-            (part bytes.now from result.next) result.line text.new out.new result.count }
+            (part bytes.now from result.next) line.new out.new result.count }
     {
         let mut tree = [0u16; 4096];
         let mut i = from;
         let mut filled = 0;
         while i < bytes.len() && LONGEST_LINE <= out.len() - filled {
-            let fed = self.feed_line(line, bytes, i, text, &mut tree, &mut out[filled..]);
-            line = fed.line;
+            let fed = self.feed_line(line, bytes, i, &mut tree, &mut out[filled..]);
             i = fed.next;
             filled += fed.count;
         }
         Fed {
-            line,
             next: i,
             count: filled,
         }
@@ -265,10 +268,10 @@ impl Lists<'_> {
 
     // At the end of the input: puts the output line that answers a last line without byte 10, or nothing where that line is empty;
     // gives how many bytes are to be printed.
-    pub fn last_line(&self, line: Line, text: &[u8], out: &mut [u8]) -> usize
-        requires holding { Holding line text.now }
+    pub fn last_line(&self, line: &Line, out: &mut [u8]) -> usize
         requires longest_line_in_bounds { longest_line ≤ length out.old }
-        ensures { (held : List ℕ) → Holds held line text.now
+        ensures within { result ≤ length out.new }
+        ensures begins { (held : List ℕ) → Holds held line.now
             → Begins out.new (output_for self.now.states self.now.rows.now self.now.accepting.now self.now.names.now held) result }
     {
         let n = line.len;
@@ -276,6 +279,6 @@ impl Lists<'_> {
             return 0;
         }
         let mut tree = [0u16; 4096];
-        self.answer(line, text, &mut tree, out)
+        self.answer(line, &mut tree, out)
     }
 }

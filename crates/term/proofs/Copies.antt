@@ -21,12 +21,6 @@ copied_one bytes {old} {mid} {at} {i} p h =
     placed_join i 1 (omega arith) (omega arith) p
     (placed_one mid (at + i) (get_or bytes i 0) (λ k. get_or bytes (i + k) 0) h (ap (λ (k : ℕ). get_or bytes k 0) z))
 
--- a word of the first n bytes
-pub copied_first : (bytes : List ℕ) {old new : List ℕ} {at : ℕ} (n w : ℕ) → n ≤ length bytes → Bytes bytes → Word n 0 bytes w → WordPut n old new at w
-    → Copied n old new at bytes
-copied_first bytes n w b c r q =
-    placed_as q (λ k. get_or bytes k 0) (λ k e. word_byte r c (omega arith) k e ∙ ap (λ (i : ℕ). get_or bytes i 0) (let z : 0 + k ≡ k = omega arith in z))
-
 -- a word of n bytes from place s on, which is not behind those that are copied
 pub copied_word : (bytes : List ℕ) {m : ℕ} {old mid new : List ℕ} {at : ℕ} (s n w : ℕ) → s ≤ m → m ≤ s + n → s + n ≤ length bytes → Bytes bytes
     → Copied m old mid at bytes → Word n s bytes w → WordPut n mid new (at + s) w → Copied (s + n) old new at bytes

@@ -237,26 +237,17 @@ fn put_few(text: &mut [u8], at: usize, bytes: &[u8])
     }
 }
 
-// Puts four to eight bytes: the first four, and the last four, which may overlap them.
-fn put_fours(text: &mut [u8], at: usize, bytes: &[u8])
-    requires { (4 ≤ length bytes.now) × (length bytes.now ≤ 8) × (at + length bytes.now ≤ length text.old) }
+// Puts the bytes N at a time; the last N may overlap those before them.
+fn put_words<const N: usize>(text: &mut [u8], at: usize, bytes: &[u8])
+    requires n_value { (0 < N) × (N ≤ 8) }
+    requires bytes_in_bounds { (N ≤ length bytes.now) × (at + length bytes.now ≤ length text.old) }
     ensures { Copied (length bytes.now) text.old text.new at bytes.now }
 {
-    let last = bytes.len() - 4;
-    put_word::<4>(&mut *text, at, word_at::<4>(bytes, 0));
-    put_word::<4>(text, at + last, word_at::<4>(bytes, last));
-}
-
-// Puts eight bytes or more by words; the last eight may overlap the word before them.
-fn put_long(text: &mut [u8], at: usize, bytes: &[u8])
-    requires { (8 ≤ length bytes.now) × (at + length bytes.now ≤ length text.old) }
-    ensures { Copied (length bytes.now) text.old text.new at bytes.now }
-{
-    let last = bytes.len() - 8;
-    for k in 0..last.div_ceil(8) {
-        put_word::<8>(&mut *text, at + 8 * k, word_at::<8>(bytes, 8 * k));
+    let last = bytes.len() - N;
+    for k in 0..(bytes.len() - 1) / N {
+        put_word::<N>(&mut *text, at + N * k, word_at::<N>(bytes, N * k));
     }
-    put_word::<8>(text, at + last, word_at::<8>(bytes, last));
+    put_word::<N>(text, at + last, word_at::<N>(bytes, last));
 }
 
 // Puts the bytes at a place; gives the place after them.
@@ -266,9 +257,9 @@ pub fn put_bytes(text: &mut [u8], at: usize, bytes: &[u8]) -> usize
 {
     let after = at + bytes.len();
     if 8 <= bytes.len() {
-        put_long(text, at, bytes);
+        put_words::<8>(text, at, bytes);
     } else if 4 <= bytes.len() {
-        put_fours(text, at, bytes);
+        put_words::<4>(text, at, bytes);
     } else {
         put_few(text, at, bytes);
     }

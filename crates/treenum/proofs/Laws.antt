@@ -6,10 +6,11 @@ use native.Mathlib.Omega.{arith}
 use lib.ListN.{length, take, drop, length-append, take-append-drop}
 use lib.Seq.{length-take-le, take-add, take_all}
 use Rattle.model.specs.Paper.{paper_states, paper_rows, paper_accepting, paper_names}
-use Rattle.line.specs.Held.{Holds, Holding, Begins, part, held_after, put_for}
+use Rattle.line.specs.Held.{Begins, part, held_after, put_for}
+use Rattle.line.specs.Feeding.{Holds}
 use Rattle.line.specs.declared.Line.{Line}
 use Rattle.line.proofs.Output.{held_more, put_more}
-use Rattle.std.specs.Prelude.{Option, Some, None, Result, Ok, Err, IsErr, IsErrAnd, MatchResult}
+use Rattle.std.specs.Prelude.{Bool, true, false, Some, None, Result, Ok, Err, IsErr, IsErrAnd, MatchResult}
 use Rattle.std.specs.declared.io.Error.{Error}
 use Rattle.streams.specs.declared.Entry.{Entry}
 use Rattle.streams.specs.declared.Entry.TheVariants.{ByteWritten, EndOfInput, ReadFailed, WriteFailed}
@@ -24,14 +25,14 @@ use Rattle.treenum.specs.declared.Failure.TheVariants.{Read, Write, TooManyReads
 -- ---- the bytes of a read
 
 -- the first i bytes are fed, and what is put for them is written
-pub record Fills (bytes text₀ : List ℕ) (line₀ : Line) (log₀ : ℕ) (text : List ℕ) (line : Line) (log i : ℕ) : Type 0 where
+pub record Fills (bytes : List ℕ) (line₀ : Line) (log₀ : ℕ) (line : Line) (log i : ℕ) : Type 0 where
   pub within : i ≤ length bytes
-  pub holds : (held : List ℕ) → Holds held line₀ text₀ → Holds (held_after held (take i bytes)) line text
-  pub logged : (held : List ℕ) → Holds held line₀ text₀ → Logged log₀ log (writes (put_after held (take i bytes)))
+  pub holds : (held : List ℕ) → Holds held line₀ → Holds (held_after held (take i bytes)) line
+  pub logged : (held : List ℕ) → Holds held line₀ → Logged log₀ log (writes (put_after held (take i bytes)))
 
-pub fills_first : (bytes text : List ℕ) (line : Line) (log : ℕ) → Fills bytes text line log text line log 0
+pub fills_first : (bytes : List ℕ) (line : Line) (log : ℕ) → Fills bytes line log line log 0
 unfolding held_after put_for
-fills_first bytes text line log = record { within = omega arith; holds = λ held x. x; logged = λ held x. logged_none log }
+fills_first bytes line log = record { within = omega arith; holds = λ held x. x; logged = λ held x. logged_none log }
 
 -- some bytes, then more, put what the first put and what the others put after them
 writes_more : (held a b : List ℕ) → writes (put_after held (a ++ b)) ≡ writes (put_after held a) ++ writes (put_after (held_after held a) b)
@@ -39,23 +40,20 @@ writes_more held a b =
     ap writes (put_more paper_states paper_rows paper_accepting paper_names held a b)
     ∙ map-append ByteWritten (put_after held a) (put_after (held_after held a) b)
 
-module _ {bytes text₀ : List ℕ} {line₀ : Line} {log₀ : ℕ} {text : List ℕ} {line : Line} {log i : ℕ} (f : Fills bytes text₀ line₀ log₀ text line log i) where
-  pub fills_holding : Holding line₀ text₀ → Holding line text
-  fills_holding h = record { bytes = _; holds = f.holds h.bytes h.holds }
-
-  module _ (line' : Line) (text' out : List ℕ) (next n log' : ℕ) (m : i < next)
-      (p : (held : List ℕ) → Holds held line text → PrintsLine held (part bytes i next) line' text' out n) where
+module _ {bytes : List ℕ} {line₀ : Line} {log₀ : ℕ} {line : Line} {log i : ℕ} (f : Fills bytes line₀ log₀ line log i) where
+  module _ (line' : Line) (out : List ℕ) (next n log' : ℕ) (m : i < next)
+      (p : (held : List ℕ) → Holds held line → PrintsLine held (part bytes i next) line' out n) where
     up_to : take next bytes ≡ take i bytes ++ part bytes i next
     up_to = let k : i + (next - i) ≡ next = omega arith in ap (λ (j : ℕ). take j bytes) (sym k) ∙ take-add i (next - i) bytes
 
     -- what was put for the bytes up to the next place is what was handed to writes
-    handed : (held : List ℕ) → Holds held line₀ text₀ → writes (put_after held (take next bytes)) ≡ writes (put_after held (take i bytes)) ++ writes (take n out)
+    handed : (held : List ℕ) → Holds held line₀ → writes (put_after held (take next bytes)) ≡ writes (put_after held (take i bytes)) ++ writes (take n out)
     handed held x =
         ap (λ (l : List ℕ). writes (put_after held l)) up_to
         ∙ writes_more held (take i bytes) (part bytes i next)
         ∙ ap (λ (l : List ℕ). writes (put_after held (take i bytes)) ++ writes l) (sym (p (held_after held (take i bytes)) (f.holds held x)).puts.front)
 
-    pub fills_more : next ≤ length bytes → Wrote log log' (take n out) (Ok tt) → Fills bytes text₀ line₀ log₀ text' line' log' next
+    pub fills_more : next ≤ length bytes → Wrote log log' (take n out) (Ok tt) → Fills bytes line₀ log₀ line' log' next
     fills_more l w = record {
       within = l;
       holds = λ held x. rw (up_to, held_more held (take i bytes) (part bytes i next)) (p (held_after held (take i bytes)) (f.holds held x)).holds;
@@ -65,7 +63,7 @@ module _ {bytes text₀ : List ℕ} {line₀ : Line} {log₀ : ℕ} {text : List
     }
 
     -- the write fails
-    pub fills_broke : (reason : Error) → Wrote log log' (take n out) (Err reason) → (r : Result Line Error) → IsErr r → (held : List ℕ) → Holds held line₀ text₀ → Feeds held bytes r text' log₀ log'
+    pub fills_broke : (reason : Error) → Wrote log log' (take n out) (Err reason) → (r : Result Unit Error) → IsErr r → (held : List ℕ) → Holds held line₀ → Feeds held bytes r line' log₀ log'
     fills_broke reason w (Ok l) h held x = cc
     fills_broke reason w (Err e) h held x = record {
       fed = take next bytes;
@@ -76,7 +74,7 @@ module _ {bytes text₀ : List ℕ} {line₀ : Line} {log₀ : ℕ} {text : List
           (logged_both log₀ (writes (put_after held (take i bytes))) (writes (take n out) ++ WriteFailed ∷ []) (f.logged held x) w);
     }
 
-  pub fills_last : length bytes ≤ i → (held : List ℕ) → Holds held line₀ text₀ → Holds (held_after held bytes) line text × Logged log₀ log (writes (put_after held bytes))
+  pub fills_last : length bytes ≤ i → (held : List ℕ) → Holds held line₀ → Holds (held_after held bytes) line × Logged log₀ log (writes (put_after held bytes))
   fills_last l held x = (rw (take_all i bytes l) at (f.holds held x), rw (take_all i bytes l) at (f.logged held x))
 
 -- a list is written that begins with these bytes
@@ -95,16 +93,16 @@ was_err (Ok y) d Q h = absurd cc
 was_err (Err e) d Q h = (e, refl, h)
 
 module _ (before between : ℕ) (chunk : List ℕ) where
-  module _ (n : ℕ) (t : Took before between chunk (Ok (Some n))) (held text : List ℕ) (after : ℕ) where
-    pub turned_on : (line : Line) → Feeds held (take n chunk) (Ok line) text between after → TakesPart held line text before after
-    turned_on line f = record {
+  module _ (n : ℕ) (t : Took before between chunk (Ok (Some n))) (held : List ℕ) (line : Line) (after : ℕ) where
+    pub turned_on : Feeds held (take n chunk) (Ok tt) line between after → TakesPart held line before after
+    turned_on f = record {
       bytes = take n chunk;
       of_part = (rw (length-take-le n chunk t.1) t.0, t.2);
       holds = f.0;
       logged = logged_both before (one_read (take n chunk)) (writes (put_after held (take n chunk))) t.3 f.1;
     }
 
-    pub turned_broke : (reason : Error) → Feeds held (take n chunk) (Err reason) text between after → (reads : ℕ) → Stops reads held (Err (Write reason)) before after
+    pub turned_broke : (reason : Error) → Feeds held (take n chunk) (Err reason) line between after → (reads : ℕ) → Stops reads held (Err (Write reason)) before after
     turned_broke reason f reads = record {
       tail = one_read (f.fed ++ f.rest) ++ (writes (put_after held f.fed) ++ WriteFailed ∷ []);
       ends = after_read f.fed f.rest (rw f.split at t.2) refl;
@@ -130,24 +128,24 @@ module _ (before between : ℕ) (chunk : List ℕ) where
   turned_unread reads held reason t = record { tail = ReadFailed ∷ []; ends = refl; logged = t }
 
 -- a failure is passed on
-pub turned_failed : (reads : ℕ) (held text : List ℕ) (before after : ℕ) (failure : Failure) → Stops reads held (Err failure) before after
-    → (r : Result (Option Line) Failure) → IsErrAnd r (λ e. e ≡ failure) → Turned reads held r text before after
-turned_failed reads held text before after failure s (Ok l) e = absurd e
-turned_failed reads held text before after failure s (Err f) e = rw e s
+pub turned_failed : (reads : ℕ) (held : List ℕ) (line : Line) (before after : ℕ) (failure : Failure) → Stops reads held (Err failure) before after
+    → (r : Result Bool Failure) → IsErrAnd r (λ e. e ≡ failure) → Turned reads held r line before after
+turned_failed reads held line before after failure s (Ok l) e = absurd e
+turned_failed reads held line before after failure s (Err f) e = rw e s
 
 -- ---- the run
 
--- the input came so far in some parts, each of which is answered; the line and the text hold what is held after them
-pub record SoFar (before : ℕ) (line : Line) (text : List ℕ) (log reads : ℕ) : Type 0 where
+-- the input came so far in some parts, each of which is answered; the line holds what is held after them
+pub record SoFar (before : ℕ) (line : Line) (log reads : ℕ) : Type 0 where
   pub parts : List (List ℕ)
   pub of_parts : Parts parts
-  pub holds : Holds (held_after [] (flatten parts)) line text
+  pub holds : Holds (held_after [] (flatten parts)) line
   pub logged : Logged before log (log_of [] parts)
   pub counted : length parts ≡ reads
 
-pub so_far_first : (line : Line) (text : List ℕ) (log : ℕ) → Holds [] line text → SoFar log line text log 0
+pub so_far_first : (line : Line) (log : ℕ) → Holds [] line → SoFar log line log 0
 unfolding Parts held_after flatten log_of
-so_far_first line text log h = record { parts = []; of_parts = _; holds = h; logged = logged_none log; counted = refl }
+so_far_first line log h = record { parts = []; of_parts = _; holds = h; logged = logged_none log; counted = refl }
 
 -- one part more
 flatten_more : (parts : List (List ℕ)) (p : List ℕ) → flatten (parts ++ p ∷ []) ≡ flatten parts ++ p
@@ -169,14 +167,11 @@ log_more held (q ∷ parts) p =
     ∙ sym (append_assoc (one_read q ++ writes (put_after held q)) (log_of (held_after held q) parts) (one_read p ++ writes (put_after (held_after (held_after held q) (flatten parts)) p)))
     ∙ ap (λ (h : List ℕ). ((one_read q ++ writes (put_after held q)) ++ log_of (held_after held q) parts) ++ (one_read p ++ writes (put_after h p))) (sym (held_more held q (flatten parts)))
 
-module _ {before : ℕ} {line : Line} {text : List ℕ} {log reads : ℕ} (s : SoFar before line text log reads) where
-  pub so_far_holding : Holding line text
-  so_far_holding = record { bytes = _; holds = s.holds }
-
-  module _ (text' : List ℕ) (log' : ℕ) (r : Result (Option Line) Failure) (f : (reads : ℕ) (held : List ℕ) → Holds held line text → Turned reads held r text' log log') where
-    pub so_far_more : (l : Line) → r ≡ Ok (Some l) → SoFar before l text' log' (reads + 1)
-    so_far_more l e =
-        let t : Turned 0 (held_after [] (flatten s.parts)) (Ok (Some l)) text' log log' = rw e at (f 0 (held_after [] (flatten s.parts)) s.holds) in
+module _ {before : ℕ} {line : Line} {log reads : ℕ} (s : SoFar before line log reads) where
+  module _ (line' : Line) (log' : ℕ) (r : Result Bool Failure) (f : (reads : ℕ) (held : List ℕ) → Holds held line → Turned reads held r line' log log') where
+    pub so_far_more : r ≡ Ok true → SoFar before line' log' (reads + 1)
+    so_far_more e =
+        let t : Turned 0 (held_after [] (flatten s.parts)) (Ok true) line' log log' = rw e at (f 0 (held_after [] (flatten s.parts)) s.holds) in
         record {
           parts = s.parts ++ t.bytes ∷ [];
           of_parts = parts_more s.parts t.bytes s.of_parts t.of_part;
@@ -192,7 +187,7 @@ module _ {before : ℕ} {line : Line} {text : List ℕ} {log reads : ℕ} (s : S
       logged = logged_both before (log_of [] s.parts) t.tail s.logged t.logged;
     }
 
-    pub so_far_done : r ≡ Ok None → Ran (Ok tt) before log'
+    pub so_far_done : r ≡ Ok false → Ran (Ok tt) before log'
     so_far_done e = stopped (Ok tt) (rw e at (f (length s.parts) (held_after [] (flatten s.parts)) s.holds))
 
     pub so_far_failed : (failure : Failure) → r ≡ Err failure → (ending : Result Unit Failure) → IsErrAnd ending (λ e. e ≡ failure) → Ran ending before log'

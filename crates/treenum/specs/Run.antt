@@ -1,8 +1,9 @@
 -- What a run of the program reads and writes, as a log of crates/streams. Assumes nothing: these are definitions.
-use Rattle.std.specs.Prelude.{ℕ, ◌<◌, ◌≡◌, length, Option, Some, None, Result, Ok, Err}
+use Rattle.std.specs.Prelude.{ℕ, ◌<◌, ◌≡◌, length, Bool, true, false, Result, Ok, Err}
 use Rattle.std.specs.declared.io.Error.{Error}
 use mathlib.Core.List.{List, [], ◌∷◌, ◌++◌, flatten}
-use Rattle.line.specs.Held.{Holds, held_after}
+use Rattle.line.specs.Held.{held_after}
+use Rattle.line.specs.Feeding.{Holds}
 use Rattle.line.specs.declared.Line.{Line}
 use Rattle.streams.specs.Log.{read_in, written_in, failures_in, Logged}
 use Rattle.streams.specs.Parts.{OfBytes, one_read, writes}
@@ -59,15 +60,15 @@ pub record Breaks (held bytes : List ℕ) (before after : ℕ) : Type 0 where
   pub logged : Logged before after (writes (put_after held fed) ++ WriteFailed ∷ [])
 
 -- the bytes of a read are fed: what is then held, and the answers to the lines that they end are written; or a write failed
-abbrev pub Feeds : (held bytes : List ℕ) → Result Line Error → (text : List ℕ) (before after : ℕ) → Type 0
-Feeds held bytes (Ok line) text before after = Holds (held_after held bytes) line text × Logged before after (writes (put_after held bytes))
-Feeds held bytes (Err reason) text before after = Breaks held bytes before after
+abbrev pub Feeds : (held bytes : List ℕ) → Result Unit Error → (line : Line) (before after : ℕ) → Type 0
+Feeds held bytes (Ok done) line before after = Holds (held_after held bytes) line × Logged before after (writes (put_after held bytes))
+Feeds held bytes (Err reason) line before after = Breaks held bytes before after
 
 -- one read, and what is done before the next
-pub record TakesPart (held : List ℕ) (line : Line) (text : List ℕ) (before after : ℕ) : Type 0 where
+pub record TakesPart (held : List ℕ) (line : Line) (before after : ℕ) : Type 0 where
   pub bytes : List ℕ
   pub of_part : (0 < length bytes) × OfBytes bytes
-  pub holds : Holds (held_after held bytes) line text
+  pub holds : Holds (held_after held bytes) line
   pub logged : Logged before after (one_read bytes ++ writes (put_after held bytes))
 
 -- the run ends
@@ -76,12 +77,12 @@ pub record Stops (reads : ℕ) (held : List ℕ) (ending : Result Unit Failure) 
   pub ends : Ends reads held ending tail
   pub logged : Logged before after tail
 
--- One turn of the run: it goes on after a read, or ends. A turn does not know how many reads there were, so it promises this for every number of
+-- One turn of the run: it goes on after a read (true), or ends. A turn does not know how many reads there were, so it promises this for every number of
 -- them: it cannot give up
-abbrev pub Turned : (reads : ℕ) (held : List ℕ) → Result (Option Line) Failure → (text : List ℕ) (before after : ℕ) → Type 0
-Turned reads held (Ok (Some line)) text before after = TakesPart held line text before after
-Turned reads held (Ok None) text before after = Stops reads held (Ok tt) before after
-Turned reads held (Err failure) text before after = Stops reads held (Err failure) before after
+abbrev pub Turned : (reads : ℕ) (held : List ℕ) → Result Bool Failure → (line : Line) (before after : ℕ) → Type 0
+Turned reads held (Ok true) line before after = TakesPart held line before after
+Turned reads held (Ok false) line before after = Stops reads held (Ok tt) before after
+Turned reads held (Err failure) line before after = Stops reads held (Err failure) before after
 
 -- the whole run
 pub record Ran (ending : Result Unit Failure) (before after : ℕ) : Type 0 where

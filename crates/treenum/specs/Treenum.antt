@@ -2,7 +2,8 @@
 use Rattle.std.specs.Prelude.{ℕ, List}
 use Rattle.model.specs.Paper.{paper_states, paper_rows, paper_accepting, paper_names}
 use Rattle.line.specs.Lines.{output_for}
-use Rattle.line.specs.Held.{put_for, Prints}
+use Rattle.line.specs.Held.{put_for}
+use Rattle.line.specs.Feeding.{Prints}
 use Rattle.line.specs.declared.Line.{Line}
 
 -- what the program prints for its input
@@ -14,5 +15,5 @@ abbrev pub put_after : (held bytes : List ℕ) → List ℕ
 put_after held bytes = put_for paper_states paper_rows paper_accepting paper_names held bytes
 
 -- `Prints` with this table
-abbrev pub PrintsLine : (held bytes : List ℕ) (line : Line) (text out : List ℕ) (count : ℕ) → Type 0
-PrintsLine held bytes line text out count = Prints paper_states paper_rows paper_accepting paper_names held bytes line text out count
+abbrev pub PrintsLine : (held bytes : List ℕ) (line : Line) (out : List ℕ) (count : ℕ) → Type 0
+PrintsLine held bytes line out count = Prints paper_states paper_rows paper_accepting paper_names held bytes line out count

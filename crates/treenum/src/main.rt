@@ -6,12 +6,13 @@
 #![tactic(auto)]
 
 ghost use Rattle.std.specs.Prelude.{List, ℕ, ◌<◌, ◌≤◌, length};
-ghost use Rattle.line.specs.Held.{longest_line, Holds, Holding, Begins, part};
+ghost use Rattle.line.specs.Feeding.{Holds};
+ghost use Rattle.line.specs.Held.{longest_line, Begins, part};
 ghost use Rattle.streams.specs.Parts.{Wrote};
 ghost use Rattle.treenum.specs.Treenum.{printed_for, PrintsLine};
 ghost use Rattle.treenum.specs.Run.{Feeds, Turned, Ran};
 
-use line::{Fed, Line, Lists, empty_line};
+use line::{Fed, Line, Lists};
 use std::fmt::Display;
 use std::process::ExitCode;
 use std::{fmt, io};
@@ -55,87 +56,75 @@ impl Display for Failure {
 }
 
 // Feeds the bytes from a place on, to the end of the bytes or until the list may have no room for one answer more; puts what is to be printed.
-fn gather(line: Line, bytes: &[u8], from: usize, text: &mut [u8], out: &mut [u8]) -> Fed
-    requires holding { Holding line text.old }
+fn gather(line: &mut Line, bytes: &[u8], from: usize, out: &mut [u8]) -> Fed
     requires from_in_bounds { (from < length bytes.now) × (longest_line ≤ length out.old) }
     ensures from_lt_next { (from < result.next) × (result.next ≤ length bytes.now) }
-    ensures by_index { (held : List ℕ) → Holds held line text.old
-        → PrintsLine held (part bytes.now from result.next) result.line text.new out.new result.count }
+    ensures within { result.count ≤ length out.new }
+    ensures by_index { (held : List ℕ) → Holds held line.old
+        → PrintsLine held (part bytes.now from result.next) line.new out.new result.count }
 {
-    PAPER.gather(line, bytes, from, text, out)
+    PAPER.gather(line, bytes, from, out)
 }
 
 // Puts what is to be printed where the input ends.
-fn last_line(line: Line, text: &[u8], out: &mut [u8]) -> usize
-    requires holding { Holding line text.now }
+fn last_line(line: &Line, out: &mut [u8]) -> usize
     requires longest_line_in_bounds { longest_line ≤ length out.old }
-    ensures { (held : List ℕ) → Holds held line text.now → Begins out.new (printed_for held) result }
+    ensures within { result ≤ length out.new }
+    ensures begins { (held : List ℕ) → Holds held line.now → Begins out.new (printed_for held) result }
 {
-    PAPER.last_line(line, text, out)
+    PAPER.last_line(line, out)
 }
 
 // Feeds the bytes of a read, and writes what is to be printed.
 fn feed_all(
-    mut line: Line,
+    line: &mut Line,
     bytes: &[u8],
-    text: &mut [u8],
-    out: &mut [u8],
-    stdio: &mut Stdio,
-    log: &mut u64,
-) -> io::Result<Line>
-    requires holding { Holding line text.old }
-    requires longest_line_in_bounds { longest_line ≤ length out.old }
-    ensures { (held : List ℕ) → Holds held line text.old
-        → Feeds held bytes.now result text.new log.old log.new }
-{
-    let mut i = 0;
-    while i < bytes.len() {
-        let fed = gather(line, bytes, i, text, out);
-        streams::write_part(stdio, log, &out[..fed.count])?;
-        line = fed.line;
-        i = fed.next;
-    }
-    Ok(line)
-}
-
-// Writes what is to be printed where the input ends.
-fn finish(
-    line: Line,
-    text: &[u8],
     out: &mut [u8],
     stdio: &mut Stdio,
     log: &mut u64,
 ) -> io::Result<()>
-    requires holding { Holding line text.now }
     requires longest_line_in_bounds { longest_line ≤ length out.old }
-    ensures { (held : List ℕ) → Holds held line text.now → Wrote log.old log.new (printed_for held) result }
+    ensures { (held : List ℕ) → Holds held line.old
+        → Feeds held bytes.now result line.new log.old log.new }
 {
-    let n = last_line(line, text, out);
+    let mut i = 0;
+    while i < bytes.len() {
+        let fed = gather(line, bytes, i, out);
+        streams::write_part(stdio, log, &out[..fed.count])?;
+        i = fed.next;
+    }
+    Ok(())
+}
+
+// Writes what is to be printed where the input ends.
+fn finish(line: &Line, out: &mut [u8], stdio: &mut Stdio, log: &mut u64) -> io::Result<()>
+    requires longest_line_in_bounds { longest_line ≤ length out.old }
+    ensures { (held : List ℕ) → Holds held line.now → Wrote log.old log.new (printed_for held) result }
+{
+    let n = last_line(line, out);
     streams::write_part(stdio, log, &out[..n])
 }
 
-// One read: its bytes are fed and what is to be printed is written. Gives the line so far, or nothing where the input has ended.
+// One read: its bytes are fed and what is to be printed is written. Gives whether there was a part: where there is none, the input has ended.
 fn take_turn(
-    line: Line,
+    line: &mut Line,
     chunk: &mut [u8],
-    text: &mut [u8],
     out: &mut [u8],
     stdio: &mut Stdio,
     log: &mut u64,
-) -> Result<Option<Line>, Failure>
-    requires holding { Holding line text.old }
+) -> Result<bool, Failure>
     requires chunk_nonzero { (0 < length chunk.old) × (longest_line ≤ length out.old) }
-    ensures { (reads : ℕ) (held : List ℕ) → Holds held line text.old
-        → Turned reads held result text.new log.old log.new }
+    ensures { (reads : ℕ) (held : List ℕ) → Holds held line.old
+        → Turned reads held result line.new log.old log.new }
 {
     match streams::read_part(stdio, log, chunk).map_err(Failure::Read)? {
         Some(n) => {
-            let next = feed_all(line, &chunk[..n], text, out, stdio, log).map_err(Failure::Write)?;
-            Ok(Some(next))
+            feed_all(line, &chunk[..n], out, stdio, log).map_err(Failure::Write)?;
+            Ok(true)
         }
         None => {
-            finish(line, text, out, stdio, log).map_err(Failure::Write)?;
-            Ok(None)
+            finish(line, out, stdio, log).map_err(Failure::Write)?;
+            Ok(false)
         }
     }
 }
@@ -145,14 +134,12 @@ fn run(stdio: &mut Stdio, log: &mut u64) -> Result<(), Failure>
     ensures { Ran result log.old log.new }
 {
     let mut chunk = [0u8; 16384];
-    let mut text = [0u8; 4096];
     // 16,384 bytes, and room for one answer more
     let mut out = [0u8; 69633];
-    let mut line = empty_line();
+    let mut line = Line::new();
     for _ in 0..u64::MAX {
-        match take_turn(line, &mut chunk, &mut text, &mut out, stdio, log)? {
-            Some(next) => line = next,
-            None => return Ok(()),
+        if !take_turn(&mut line, &mut chunk, &mut out, stdio, log)? {
+            return Ok(());
         }
     }
     Err(Failure::TooManyReads)

@@ -1,6 +1,6 @@
 use Rattle.std.proofs.Common.{◌*◌}
 use Rattle.term.specs.Written.{Copied}
-use Rattle.term.proofs.put_long.Given as goal
+use Rattle.term.proofs.put_words.Given as goal
 
 abbrev pub invariant-loop-k : goal.invariant-loop-k
-invariant-loop-k l = Copied (8 * l.k) l.initial.text l.text l.at l.bytes
+invariant-loop-k g l = Copied (g.row.N * l.k) l.initial.text l.text l.at l.bytes
