@@ -10,8 +10,8 @@ use Rattle.std.proofs.Props.{props}
 use native.Mathlib.Numerals.{add-one}
 use mathlib.Core.Logic.{◌⊎◌, inl, inr, ∥∥₁_elim}
 use native.Mathlib.Nat.{zero-sub, pos_of_ne-zero, eq-zero-or-pos}
-use lib.ListN.{length, get_or, set, take, drop, replicate, length-replicate, length-set, length-drop, drop_of_length-le}
-use lib.Seq.{take-nil, take_all, get_or-set_same, get_or-set_other, take-suc-set, length-take-le, take-take, get_or-take, get_or-drop}
+use lib.ListN.{length, get_or, set, take, drop, replicate, length-replicate, length-map, get_or-map, length-set, length-drop, drop_of_length-le}
+use lib.Seq.{take-nil, take_all, get_or-set_same, get_or-set_other, take-suc-set, length-take-le, take-take, map-set, get_or-take, get_or-drop}
 use lib.Dec.{ltb, eqb}
 use borrow.Author.Count.{below_more}
 use borrow.Author.Tests.{eqb-false, ltb-false}
@@ -38,7 +38,8 @@ use Rattle.tree.specs.declared.Reading.{Reading}
 use Rattle.tree.specs.declared.Step.TheVariants.{Opens, Closes}
 use Rattle.tree.proofs.Laws.{Read, refusing, opens_by, closes_by, opened, shut, refused_here, begins as read_begins}
 use Rattle.rank.specs.Machine.{Node, formed, node_by, node_of, numbered, run, machine}
-use Rattle.rank.specs.RankReady.{ValuesFit, Closable, Summable, AllCount, RankReady, StackRoom}
+use Rattle.rank.specs.RankReady.{ValuesFit, Closable, Summable, AllCount, RankReady, StackRoom, symbols, begins}
+use Rattle.rank.specs.declared.OpenNode.{OpenNode}
 use Rattle.rank.proofs.Folding.{valued_below, unformed, formed_is}
 
 -- ---- an array as a stack
@@ -71,6 +72,27 @@ drop_take zero n l = let e : n - 0 ≡ n = omega arith in rw e
 drop_take (suc b) zero l = rw zero-sub
 drop_take (suc b) (suc n) [] = rw take-nil
 drop_take (suc b) (suc n) (x ∷ l) = let e : suc n - suc b ≡ n - b = omega arith in rw e (drop_take b n l)
+
+-- ---- the open nodes, by their symbols and by what was waiting
+
+abbrev no_node : OpenNode
+no_node = record { symbol = 0; begin = 0 }
+
+module _ (opens : List OpenNode) (d : ℕ) where
+  pub symbol_at : get_or (symbols opens) d 0 ≡ (get_or opens d no_node).symbol
+  symbol_at = get_or-map (λ (n : OpenNode). n.symbol) opens d no_node
+
+  pub node_at : (rows : List Row) (cs sums xs vs : List ℕ) {o : Node} → node_of rows cs sums (get_or opens d no_node).symbol xs vs ≡ o → node_of rows cs sums (get_or (symbols opens) d 0) xs vs ≡ o
+  node_at rows cs sums xs vs e = rw symbol_at e
+
+  pub begin_at : (b : ℕ) → b ≡ (get_or opens d no_node).begin → b ≡ get_or (begins opens) d 0
+  begin_at b e = e ∙ sym (get_or-map (λ (n : OpenNode). n.begin) opens d no_node)
+
+  pub in_opens : (i : ℕ) → i < length (symbols opens) → i < length opens
+  in_opens i l = rw (length-map opens (λ (n : OpenNode). n.symbol)) at l
+
+  pub node_put : (n : OpenNode) (opens' : List OpenNode) → opens' ≡ set opens d n → (symbols opens' ≡ set (symbols opens) d n.symbol) × (begins opens' ≡ set (begins opens) d n.begin)
+  node_put n opens' e = (ap symbols e ∙ map-set (λ (n : OpenNode). n.symbol) opens d n, ap begins e ∙ map-set (λ (n : OpenNode). n.begin) opens d n)
 
 -- ---- one entry of the machine
 

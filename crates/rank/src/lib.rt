@@ -9,12 +9,19 @@ ghost use Rattle.model.specs.Entries.{tree_then};
 ghost use Rattle.rows.specs.Words.{rows_in};
 ghost use Rattle.counts.specs.States.{held};
 ghost use Rattle.rank.specs.Machine.{formed, node_of, numbered, machine};
-ghost use Rattle.rank.specs.RankReady.{Foldable, Formable, Closable, Summable, RankReady, StackRoom};
+ghost use Rattle.rank.specs.RankReady.{Foldable, Formable, Closable, Summable, RankReady, StackRoom, symbols, begins};
 
 use index::RowIndex;
 use model::{Answer, Kind, refuse};
 use rows::Rows;
 use tree::{Reading, Step};
+
+// A node that is open: its symbol, and how many states were waiting when it was opened.
+#[derive(Clone, Copy)]
+struct OpenNode {
+    symbol: u16,
+    begin: u16,
+}
 
 // The children's values as one: for each child from the first, multiply by the count of its state and add its value.
 fn fold(states: &[u16], values: &[u64], counts: &[u64]) -> u64
@@ -40,15 +47,18 @@ pub struct Numbering<'a> {
 }
 
 // Opens a node inside d open ones: stores its symbol, and how many states are waiting.
-fn open_node(opens: &mut [u16], begins: &mut [u16], d: usize, symbol: u16, w: usize)
-    requires { (d < length opens.old) × (d < length begins.old) × (w ≤ 2048) }
-    ensures { (opens.new ≡ set opens.old d symbol) × (begins.new ≡ set begins.old d w) }
+fn open_node(opens: &mut [OpenNode], d: usize, symbol: u16, w: usize)
+    requires { (d < length opens.old) × (w ≤ 2048) }
+    ensures { opens.new ≡ set opens.old d (record { symbol = symbol; begin = w }) }
 {
-    opens[d] = symbol;
-    begins[d] = w as u16;
+    opens[d] = OpenNode {
+        symbol,
+        begin: w as u16,
+    };
 }
 
 // Stores the state and the value of a closed node in place of its children's, which stand from b on.
+// (Two arrays: the index takes a slice of states, `fold` one of values.)
 fn store_closed(waiting: &mut [u16], values: &mut [u64], b: usize, q: u16, v: u64)
     requires { (b < length waiting.old) × (b < length values.old) }
     ensures { (waiting.new ≡ set waiting.old b q) × (values.new ≡ set values.old b v) }
@@ -119,18 +129,16 @@ impl<'a> Numbering<'a> {
         Err(refuse(Kind::NotAccepted, place as u64))
     }
 
-    // The number of a tree, entry by entry: an entry opens a node, or closes one whose children's states and values are waiting. Of each open node
-    // `opens` has its symbol and `begins` how many states were waiting when it was opened; the first w of `waiting` and `values` are the states and
-    // the values of closed nodes that wait for their parent's bar.
+    // The number of a tree, entry by entry: an entry opens a node, or closes one whose children's states and values are waiting. The
+    // first w of `waiting` and `values` are the states and the values of closed nodes that wait for their parent's bar.
     fn number_tree(
         &self,
         tree: &[u16],
-        opens: &mut [u16],
-        begins: &mut [u16],
+        opens: &mut [OpenNode],
         waiting: &mut [u16],
         values: &mut [u64],
     ) -> Answer
-        requires { WellFormed tree.now × StackRoom tree.now opens.old begins.old waiting.old values.old }
+        requires { WellFormed tree.now × StackRoom tree.now (symbols opens.old) (begins opens.old) waiting.old values.old }
         ensures { outcome result ≡ machine (rows_in self.now.index.rows.pool.now self.now.index.rows.words.now) self.now.accepting.now
             self.now.counts.now self.now.sums.now tree.now }
     {
@@ -140,13 +148,13 @@ impl<'a> Numbering<'a> {
             // no entry of a tree is refused
             match s.entry(*e)? {
                 Step::Opens(t) => {
-                    open_node(opens, begins, t.depth - 1, *e, w);
+                    open_node(opens, t.depth - 1, *e, w);
                     s = t;
                 }
                 Step::Closes(t) => {
-                    let d = t.depth;
-                    let b = usize::from(begins[d]);
-                    let Some((q, v)) = self.close(opens[d], &waiting[b..w], &values[b..w]) else {
+                    let OpenNode { symbol, begin } = opens[t.depth];
+                    let b = usize::from(begin);
+                    let Some((q, v)) = self.close(symbol, &waiting[b..w], &values[b..w]) else {
                         return Err(refuse(Kind::NotAccepted, i as u64));
                     };
                     store_closed(waiting, values, b, q, v);
@@ -166,11 +174,14 @@ impl<'a> Numbering<'a> {
         ensures { outcome result ≡ machine (rows_in self.now.index.rows.pool.now self.now.index.rows.words.now) self.now.accepting.now
             self.now.counts.now self.now.sums.now tree.now }
     {
-        let mut opens = [0u16; 2048];
-        let mut begins = [0u16; 2048];
+        let none = OpenNode {
+            symbol: 0,
+            begin: 0,
+        };
+        let mut opens = [none; 2048];
         let mut waiting = [0u16; 2048];
         let mut values = [0u64; 2048];
-        self.number_tree(tree, &mut opens, &mut begins, &mut waiting, &mut values)
+        self.number_tree(tree, &mut opens, &mut waiting, &mut values)
     }
 
     // Numbers a tree.
