@@ -162,6 +162,7 @@ fn longer_of(long: u64, s: u64) -> u64
 }
 
 // Chains the rows by their targets, in their order, by links in their words.
+// (Pool, words and first links come apart: what is written here is what a `ByTarget` is made of.)
 pub fn chain_rows(pool: &[u16], words: &mut [u64], first: &mut [u16])
     requires { Chainable pool.now words.old first.old }
     ensures { ChainedRows pool.now words.old first.old words.new first.new }

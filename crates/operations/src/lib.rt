@@ -9,6 +9,9 @@ ghost use Rattle.rows.specs.Walk.{Room};
 ghost use Rattle.operations.specs.Answered.{task_prepares, Answered, WroteTree};
 
 use model::Answer;
+use rank::Numbering;
+use rows::Rows;
+use unrank::TreeWriter;
 
 // What is asked of a table: its total, the number of the tree that is lent, or the tree of a number.
 // (An enum, told apart in one match: as three closures, each would have to state again all that the check leaves.)
@@ -31,11 +34,11 @@ fn prepares(task: Task) -> bool
 }
 
 // Answers with room for so many rows and states, and so many buckets.
-fn answer_in<const ROWS: usize, const STATES: usize, const HEADS: usize>(
+fn answer_in<'a, const ROWS: usize, const STATES: usize, const HEADS: usize>(
     task: Task,
     states: u64,
-    rows: &[u16],
-    accepting: &[u16],
+    rows: &'a [u16],
+    accepting: &'a [u16],
     tree: &[u16],
     out: &mut [u16],
 ) -> Answer
@@ -65,29 +68,20 @@ fn answer_in<const ROWS: usize, const STATES: usize, const HEADS: usize>(
         &mut used,
         &mut sums,
     )?;
+    let held = Rows {
+        pool: rows,
+        words: &words[..checked.rows],
+    };
     match task {
         Task::Check => Ok(checked.total),
-        Task::Number => rank::number_prepared(
-            rows,
-            accepting,
-            tree,
-            &words[..checked.rows],
-            &heads,
-            checked.by,
-            &counts,
-            &sums,
-        ),
-        Task::Write(number) => unrank::write_prepared(
-            rows,
-            accepting,
-            &words[..checked.rows],
-            &first,
-            &counts,
-            &sums,
-            checked.total,
-            number,
-            out,
-        ),
+        Task::Number => {
+            let numbering = Numbering::new(held, &heads, checked.by, accepting, &counts, &sums);
+            numbering.number(tree)
+        }
+        Task::Write(number) => {
+            let writer = TreeWriter::new(held, &first, accepting, &counts, &sums, checked.total);
+            writer.write(number, out)
+        }
     }
 }
 

@@ -13,6 +13,7 @@ ghost use Rattle.rank.specs.RankReady.{Foldable, Formable, Closable, Summable, R
 
 use index::RowIndex;
 use model::{Answer, Kind, refuse};
+use rows::Rows;
 use tree::{Reading, Step};
 
 // The children's values as one: for each child from the first, multiply by the count of its state and add its value.
@@ -57,6 +58,28 @@ fn store_closed(waiting: &mut [u16], values: &mut [u64], b: usize, q: u16, v: u6
 }
 
 impl<'a> Numbering<'a> {
+    // Puts together what the check of a table leaves.
+    pub fn new(
+        rows: Rows<'a>,
+        heads: &'a [u16],
+        by: u64,
+        accepting: &'a [u16],
+        counts: &'a [u64],
+        sums: &'a [u64],
+    ) -> Numbering<'a>
+        requires { RankReady by rows.pool.now rows.words.now heads.now accepting.now counts.now sums.now }
+        ensures { (result.index.rows.pool.now ≡ rows.entry.pool.now) × (result.index.rows.words.now ≡ rows.entry.words.now) × (result.index.heads.now ≡ heads.now)
+            × (result.index.by ≡ by) × (result.accepting.now ≡ accepting.now) × (result.counts.now ≡ counts.now) × (result.sums.now ≡ sums.now) }
+    {
+        let index = RowIndex { rows, heads, by };
+        Numbering {
+            index,
+            accepting,
+            counts,
+            sums,
+        }
+    }
+
     // The value of a tree in its state q, by its row k. An unused state counts 0, and no value is formed in it: 0 stands there.
     fn value_in(&self, states: &[u16], values: &[u64], k: usize, q: u16) -> u64
         requires { Formable self.now.counts.now self.now.sums.now states.now values.now k q }

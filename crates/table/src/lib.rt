@@ -142,10 +142,10 @@ fn check_states(
 {
     counts::chain_rows(pool, words, first);
     let rows = Rows { pool, words };
-    let chains = ByTarget { rows, first };
-    chains.count_states(states, counts, marks, sums);
+    let by_target = ByTarget { rows, first };
+    by_target.count_states(states, counts, marks, sums);
     used::settle(
-        prepare, states, accepting, &chains, counts, marks, used, sums,
+        prepare, states, accepting, &by_target, counts, marks, used, sums,
     )?;
     total_of(accepting, counts)
 }

@@ -2,13 +2,15 @@
 #![tactic(auto)]
 
 ghost use Rattle.std.specs.Prelude.{◌≡◌, ◌≤◌, length};
-ghost use Rattle.rows.specs.Words.{rows_in};
+ghost use Rattle.rows.specs.Words.{rows_in, afters};
+ghost use Rattle.counts.specs.Chain.{Chained};
 ghost use Rattle.unrank.specs.UnrankReady.{ValueReady, WriteReady, NumberReady};
 ghost use Rattle.unrank.specs.Trees.{Opening, opened_at, Enters, Shared, child_of, value_entries, Wrote, ListReady, spot_of};
 ghost use Rattle.unrank.specs.Written.{WroteNumber, WroteBelow};
 
 use counts::ByTarget;
 use model::{Answer, Kind, refuse};
+use rows::Rows;
 
 // The row in which a value falls: its word, what it counts, and the value less what the state's earlier rows count.
 #[derive(Clone, Copy)]
@@ -46,6 +48,29 @@ pub struct TreeWriter<'a> {
 }
 
 impl<'a> TreeWriter<'a> {
+    // Puts together what the check of a table leaves.
+    pub fn new(
+        rows: Rows<'a>,
+        first: &'a [u16],
+        accepting: &'a [u16],
+        counts: &'a [u64],
+        sums: &'a [u64],
+        total: u64,
+    ) -> TreeWriter<'a>
+        requires { Chained (rows_in rows.pool.now rows.words.now) first.now (afters rows.words.now) }
+        ensures { (result.by_target.rows.pool.now ≡ rows.entry.pool.now) × (result.by_target.rows.words.now ≡ rows.entry.words.now) × (result.by_target.first.now ≡ first.now)
+            × (result.accepting.now ≡ accepting.now) × (result.counts.now ≡ counts.now) × (result.sums.now ≡ sums.now) × (result.total ≡ total) }
+    {
+        let by_target = ByTarget { rows, first };
+        TreeWriter {
+            by_target,
+            accepting,
+            counts,
+            sums,
+            total,
+        }
+    }
+
     // Row r as the row in which the value falls; `end` is the first value beyond the row.
     fn enter_row(&self, r: usize, end: u64, value: u64) -> Entered
         requires { Opening self.now.by_target.rows.words.now self.now.sums.now r end value }

@@ -100,15 +100,15 @@ impl Counts<'_> {
 
     // Marks the arguments of the rows of state q that count more than 0, up to the row after which every state below q that has trees is
     // marked.
-    fn mark_rows(&self, chains: &ByTarget, used: &mut [u8], low: usize, q: usize) -> usize
-        requires { TurnReady (rows_in chains.now.rows.pool.now chains.now.rows.words.now) chains.now.first.now
+    fn mark_rows(&self, by_target: &ByTarget, used: &mut [u8], low: usize, q: usize) -> usize
+        requires { TurnReady (rows_in by_target.now.rows.pool.now by_target.now.rows.words.now) by_target.now.first.now
             self.now.counts.now used.old low q }
-        ensures { Turned (rows_in chains.now.rows.pool.now chains.now.rows.words.now) self.now.counts.now q
+        ensures { Turned (rows_in by_target.now.rows.pool.now by_target.now.rows.words.now) self.now.counts.now q
             used.old used.new result }
     {
-        let Rows { pool, words } = chains.rows;
+        let Rows { pool, words } = by_target.rows;
         let mut n = low;
-        let mut p = usize::from(chains.first[q]);
+        let mut p = usize::from(by_target.first[q]);
         while 0 < p {
             if q <= n {
                 return n;
@@ -128,13 +128,13 @@ impl Counts<'_> {
 pub fn find_used(
     states: usize,
     accepting: &[u16],
-    chains: &ByTarget,
+    by_target: &ByTarget,
     counts: &[u64],
     used: &mut [u8],
 )
-    requires { PassReady states chains.now.rows.pool.now accepting.now chains.now.rows.words.now chains.now.first.now
+    requires { PassReady states by_target.now.rows.pool.now accepting.now by_target.now.rows.words.now by_target.now.first.now
         counts.now used.old }
-    ensures { FoundUsed states chains.now.rows.pool.now accepting.now chains.now.rows.words.now used.old used.new }
+    ensures { FoundUsed states by_target.now.rows.pool.now accepting.now by_target.now.rows.words.now used.old used.new }
 {
     let each = &counts[..states];
     let known = Counts {
@@ -148,7 +148,7 @@ pub fn find_used(
             break;
         }
         if used[m] != 0 {
-            n = known.mark_rows(chains, used, n, m);
+            n = known.mark_rows(by_target, used, n, m);
         }
     }
 }
@@ -195,12 +195,12 @@ pub fn first_fault(states: usize, marks: &[u64], used: &[u8], from: usize) -> Op
 }
 
 // Sets the sums of the rows of state q to 0.
-fn clear_rows(chains: &ByTarget, sums: &mut [u64], q: usize)
-    requires { (q < length chains.now.first.now) × (length chains.now.rows.words.now ≤ length sums.old) }
-    ensures { RowsCleared chains.now.rows.words.now q sums.old sums.new }
+fn clear_rows(by_target: &ByTarget, sums: &mut [u64], q: usize)
+    requires { (q < length by_target.now.first.now) × (length by_target.now.rows.words.now ≤ length sums.old) }
+    ensures { RowsCleared by_target.now.rows.words.now q sums.old sums.new }
 {
-    let words = chains.rows.words;
-    let mut p = usize::from(chains.first[q]);
+    let words = by_target.rows.words;
+    let mut p = usize::from(by_target.first[q]);
     while 0 < p {
         sums[p - 1] = 0;
         p = rows::after_in(words[p - 1]);
@@ -210,19 +210,19 @@ fn clear_rows(chains: &ByTarget, sums: &mut [u64], q: usize)
 // Sets the counts of unused states, and the sums of their rows, to 0.
 pub fn clear_unused(
     states: usize,
-    chains: &ByTarget,
+    by_target: &ByTarget,
     used: &[u8],
     counts: &mut [u64],
     sums: &mut [u64],
 )
-    requires { ClearReady states chains.now.rows.pool.now chains.now.rows.words.now chains.now.first.now used.now
+    requires { ClearReady states by_target.now.rows.pool.now by_target.now.rows.words.now by_target.now.first.now used.now
         counts.old sums.old }
-    ensures { Cleared states chains.now.rows.words.now used.now counts.old counts.new sums.old sums.new }
+    ensures { Cleared states by_target.now.rows.words.now used.now counts.old counts.new sums.old sums.new }
 {
     for q in 0..states {
         if used[q] == 0 {
             counts[q] = 0;
-            clear_rows(chains, sums, q);
+            clear_rows(by_target, sums, q);
         }
     }
 }
@@ -232,23 +232,23 @@ pub fn clear_unused(
 fn settle_used(
     states: usize,
     accepting: &[u16],
-    chains: &ByTarget,
+    by_target: &ByTarget,
     counts: &mut [u64],
     marks: &[u64],
     used: &mut [u8],
     sums: &mut [u64],
     from: usize,
 ) -> Result<(), Refusal>
-    requires { SettleReady states chains.now.rows.pool.now accepting.now chains.now.rows.words.now chains.now.first.now
+    requires { SettleReady states by_target.now.rows.pool.now accepting.now by_target.now.rows.words.now by_target.now.first.now
         counts.old marks.now used.old sums.old × FaultFrom states marks.now from }
-    ensures { Settled true states chains.now.rows.pool.now accepting.now chains.now.rows.words.now counts.old
+    ensures { Settled true states by_target.now.rows.pool.now accepting.now by_target.now.rows.words.now counts.old
         counts.new sums.old sums.new result }
 {
-    find_used(states, accepting, chains, counts, used);
+    find_used(states, accepting, by_target, counts, used);
     if let Some((q, kind)) = first_fault(states, marks, used, from) {
         return Err(refuse(kind, q as u64));
     }
-    clear_unused(states, chains, used, counts, sums);
+    clear_unused(states, by_target, used, counts, sums);
     Ok(())
 }
 
@@ -258,20 +258,22 @@ pub fn settle(
     prepare: bool,
     states: usize,
     accepting: &[u16],
-    chains: &ByTarget,
+    by_target: &ByTarget,
     counts: &mut [u64],
     marks: &[u64],
     used: &mut [u8],
     sums: &mut [u64],
 ) -> Result<(), Refusal>
-    requires { SettleReady states chains.now.rows.pool.now accepting.now chains.now.rows.words.now chains.now.first.now
+    requires { SettleReady states by_target.now.rows.pool.now accepting.now by_target.now.rows.words.now by_target.now.first.now
         counts.old marks.now used.old sums.old }
-    ensures { Settled prepare states chains.now.rows.pool.now accepting.now chains.now.rows.words.now counts.old
+    ensures { Settled prepare states by_target.now.rows.pool.now accepting.now by_target.now.rows.words.now counts.old
         counts.new sums.old sums.new result }
 {
     let from = first_place(states, marks);
     if prepare || from < states {
-        settle_used(states, accepting, chains, counts, marks, used, sums, from)?;
+        settle_used(
+            states, accepting, by_target, counts, marks, used, sums, from,
+        )?;
     }
     Ok(())
 }
