@@ -253,6 +253,7 @@ pub struct NamesList<'a> {
 }
 
 // Room for where the lines of a names list begin, and for the index of their names.
+// `starts` and `next` stay two arrays: n lines have n + 1 starts and n links, and writing a term takes the starts alone.
 #[derive(Drop)]
 pub struct NamesRoom {
     pub starts: [u16; 256],
@@ -277,6 +278,7 @@ impl NamesRoom {
         requires { Started self.old.starts × Clear 512 256 self.old.heads self.old.next }
         ensures { NamesAnswer seed names.now self.new.starts self.new.heads self.new.next result }
     {
+        // taken apart, as the proof does not close where structs are made of `self`'s fields in a loop that writes them
         let NamesRoom {
             starts,
             heads,
