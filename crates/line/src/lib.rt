@@ -42,14 +42,17 @@ pub struct Fed {
 }
 
 // The number that digits make, with one byte more; none where that is no digit.
-fn with_digit(number: Option<u64>, b: u8) -> Option<u64>
-    ensures { result ≡ with_digit number b }
+fn add_digit(number: &mut Option<u64>, b: u8)
+    ensures { number.new ≡ with_digit number.old b }
 {
-    let n = number?;
+    let Some(n) = *number else {
+        return;
+    };
     if !b.is_ascii_digit() {
-        return None;
+        *number = None;
+        return;
     }
-    Some(n.saturating_mul(10).saturating_add(u64::from(b - b'0')))
+    *number = Some(n.saturating_mul(10).saturating_add(u64::from(b - b'0')));
 }
 
 impl Line {
@@ -80,7 +83,7 @@ impl Line {
         ensures { (held : List ℕ) → Holds held self.old → Holds (held ++ b ∷ []) self.new }
     {
         let len = self.len;
-        self.number = with_digit(self.number, b);
+        add_digit(&mut self.number, b);
         if 4096 <= len {
             self.len = 4097;
             return;
@@ -118,6 +121,7 @@ fn put_number(n: u64, out: &mut [u8]) -> usize
 }
 
 // Puts the output line of a refusal: its number and its place.
+// (By hand: what the list then holds is promised, and no clause knows which bytes `write!` leaves in a slice.)
 fn put_refusal(r: Refusal, out: &mut [u8]) -> usize
     requires { longest_line ≤ length out.old }
     ensures { Begins out.new (printed (refused_by r) decimal) result }

@@ -216,6 +216,7 @@ impl<'a> NameLines<'a> {
 }
 
 // Lines, no two of which have equal names, and the index of their names, by hashes that begin with a seed.
+// (The chains of a bucket are links in an array, and not a map: the library has no heap.)
 #[derive(Clone, Copy)]
 pub struct NamesIndex<'a> {
     pub lines: NameLines<'a>,
@@ -252,6 +253,7 @@ pub struct NamesList<'a> {
 }
 
 // Room for where the lines of a names list begin, and for the index of their names.
+// `starts` and `next` stay two arrays: n lines have n + 1 starts and n links, and writing a term takes the starts alone.
 #[derive(Drop)]
 pub struct NamesRoom {
     pub starts: [u16; 256],
@@ -276,12 +278,14 @@ impl NamesRoom {
         requires { Started self.old.starts × Clear 512 256 self.old.heads self.old.next }
         ensures { NamesAnswer seed names.now self.new.starts self.new.heads self.new.next result }
     {
+        // taken apart, as the proof does not close where structs are made of `self`'s fields in a loop that writes them
         let NamesRoom {
             starts,
             heads,
             next,
         } = self;
         let clean = only_list_bytes(names);
+        // not a `for`: each line's end says where the next line begins
         let mut n = 0;
         let mut at = 0;
         while at < names.len() {

@@ -48,6 +48,8 @@ fn answer_in<'a, const ROWS: usize, const STATES: usize, const HEADS: usize>(
     requires few { (ROWS ≤ 1024) × (STATES ≤ 256) }
     ensures { Answered task states rows.now accepting.now tree.now out.old out.new result }
 {
+    // arrays beside one another, and not of structs: what is said of words, counts and sums is said of lists of numbers, and each step of the check
+    // borrows those that it writes
     let mut words = [0u64; ROWS];
     let mut heads = [0u16; HEADS];
     let mut first = [0u16; STATES];

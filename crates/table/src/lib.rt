@@ -151,6 +151,7 @@ fn check_states(
 }
 
 // The check of a table, which leaves in the lent arrays what writing needs of one that passes, and what numbering needs if it is to prepare for that.
+// (They stay apart, and no struct of `&mut`s: each step fills some of them and reads others, and its contract says of each what it then holds.)
 pub fn check_into(
     prepare: bool,
     states: u64,

@@ -9,7 +9,7 @@ ghost use Rattle.model.specs.TermOperations.{fits_in, read_named, write_fits, wr
 ghost use Rattle.chains.specs.First.{first_with};
 ghost use Rattle.scan.specs.TextState.{scanned};
 ghost use Rattle.term.specs.Emit.{entry_text, closing, mark_after, entries_text};
-ghost use Rattle.term.specs.Written.{Put, Copied, Front, EntriesNamed, Gave, ReadBy, WriteBy, ReadTerm, WriteTerm};
+ghost use Rattle.term.specs.Written.{Put, Front, EntriesNamed, Gave, ReadBy, WriteBy, ReadTerm, WriteTerm};
 ghost use Rattle.term.specs.Pass.{Closing, Follows, unlisted_at, SymbolPut, Cleared, Passed};
 
 use model::{Answer, Kind, Refusal, refuse};
@@ -227,27 +227,28 @@ fn text_length(lines: &NameLines, tree: &[u16]) -> usize
     sum
 }
 
-// Puts bytes at a place one by one.
-fn put_few(text: &mut [u8], at: usize, bytes: &[u8])
-    requires { at + length bytes.now ≤ length text.old }
-    ensures { Copied (length bytes.now) text.old text.new at bytes.now }
+// Puts bytes one by one over as many others.
+fn put_few(to: &mut [u8], bytes: &[u8])
+    requires { length to.old ≡ length bytes.now }
+    ensures { to.new ≡ bytes.now }
 {
     for (i, b) in bytes.iter().enumerate() {
-        text[at + i] = *b;
+        to[i] = *b;
     }
 }
 
-// Puts the bytes N at a time; the last N may overlap those before them.
-fn put_words<const N: usize>(text: &mut [u8], at: usize, bytes: &[u8])
+// Puts bytes over as many others, N at a time; the last N may overlap those before them.
+fn put_words<const N: usize>(to: &mut [u8], bytes: &[u8])
     requires n_value { (0 < N) × (N ≤ 8) }
-    requires bytes_in_bounds { (N ≤ length bytes.now) × (at + length bytes.now ≤ length text.old) }
-    ensures { Copied (length bytes.now) text.old text.new at bytes.now }
+    requires same_len { length to.old ≡ length bytes.now }
+    requires n_le_bytes { N ≤ length bytes.now }
+    ensures { to.new ≡ bytes.now }
 {
     let last = bytes.len() - N;
     for k in 0..(bytes.len() - 1) / N {
-        put_word::<N>(&mut *text, at + N * k, word_at::<N>(bytes, N * k));
+        put_word::<N>(&mut *to, N * k, word_at::<N>(bytes, N * k));
     }
-    put_word::<N>(text, at + last, word_at::<N>(bytes, last));
+    put_word::<N>(to, last, word_at::<N>(bytes, last));
 }
 
 // Puts the bytes at a place; gives the place after them.
@@ -256,17 +257,19 @@ pub fn put_bytes(text: &mut [u8], at: usize, bytes: &[u8]) -> usize
     ensures { Put text.old text.new bytes.now at result }
 {
     let after = at + bytes.len();
+    let to = &mut text[at..after];
     if 8 <= bytes.len() {
-        put_words::<8>(text, at, bytes);
+        put_words::<8>(to, bytes);
     } else if 4 <= bytes.len() {
-        put_words::<4>(text, at, bytes);
+        put_words::<4>(to, bytes);
     } else {
-        put_few(text, at, bytes);
+        put_few(to, bytes);
     }
     after
 }
 
-// Puts the bytes that an entry gives at a place; gives the place after them.
+// Puts the bytes that an entry gives at a place; gives the place after them. The mark is 0 before the first entry, as in the definition: an Option
+// would be one more `match` for each entry, and say no more.
 fn put_entry_text(lines: &NameLines, mark: u8, e: u16, text: &mut [u8], at: usize) -> usize
     requires e_le_n { e ≤ lines.now.n }
     requires e_in_bounds { at + length (entry_text lines.now.names.now mark e) ≤ length text.old }

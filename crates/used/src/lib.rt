@@ -34,6 +34,7 @@ fn none_empty(counts: &[u64]) -> bool
 }
 
 // Marks the states of a list.
+// (Beside mark_listed: one function for both would take the test as a closure, longer than the loop that it saves.)
 fn mark_args(args: &[u16], used: &mut [u8])
     requires { Placed (length used.old) args.now }
     ensures { MarkedToo (λ q. is_among q args.now) used.old used.new }

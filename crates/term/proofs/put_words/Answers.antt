@@ -1,6 +1,6 @@
 use Rattle.std.proofs.Common.{◌≡◌, ◌+◌, ◌-◌, ◌*◌, ◌/◌, ◌≤◌, ◌<◌, length, refl, arith}
 use Rattle.std.proofs.Math.Nat.{le-div_iff_mul-le, mul_comm, mul-suc, mul-div-le, lt-mul-div-succ}
-use Rattle.term.proofs.Copies.{copied_word}
+use Rattle.term.proofs.Copies.{copied_word, copied_whole}
 use Rattle.term.proofs.put_words.Goals as goal
 
 pub loop-k-preserved : goal.loop-k-preserved
@@ -21,7 +21,7 @@ returns g c =
     let next : n * (q + 1) ≡ n * q + n = omega (arith, mul-suc n q) in
     let last : c.loop-k.k ≡ q = omega arith in
     let same : n * c.loop-k.k ≡ n * q = rw last refl in
-    let e : length l - n + n ≡ length l = omega (arith, c.requires.bytes_in_bounds.0) in
-    rw e at
-    (copied_word l (length l - n) n _ (omega (arith, same, high, next)) (omega (arith, same, low, c.requires.bytes_in_bounds.0)) (omega (arith, c.requires.bytes_in_bounds.0))
-    (λ i l. (c.type_inv.bytes i).fits) c.loop-k.invariant c.word_at-2.ensures c.put_word-2.ensures)
+    let e : length l - n + n ≡ length l = omega (arith, c.requires.n_le_bytes) in
+    copied_whole l c.requires.same_len (rw e at
+    (copied_word l (length l - n) n _ (omega (arith, same, high, next)) (omega (arith, same, low, c.requires.n_le_bytes)) (omega (arith, c.requires.n_le_bytes))
+    (λ i l. (c.type_inv.bytes i).fits) c.loop-k.invariant c.word_at-2.ensures c.put_word-2.ensures))
