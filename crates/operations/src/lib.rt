@@ -108,7 +108,7 @@ fn answer(
 }
 
 // Checks a table and gives its total.
-// (Here and below a table is three parameters, no struct: the C interface and docs/SPEC-MAP.md name these functions and their lists so.)
+// (A table is three parameters in this file, no struct: the C interface and docs/SPEC-MAP.md name these functions and their lists so.)
 pub fn check(states: u64, rows: &[u16], accepting: &[u16]) -> Answer
     ensures { outcome result ≡ check_outcome states rows.now accepting.now }
 {

@@ -36,7 +36,7 @@ fn fold(states: &[u16], values: &[u64], counts: &[u64]) -> u64
 }
 
 // A table that passes, as its check leaves it for numbering: its rows and their index, its accepting list, what each used state counts, and for each
-// row what the rows before it with its target count.
+// row what the rows before it with its target count. (The fact is truncated: `RankReady` names what all states count, used or not.)
 #[derive(Clone, Copy)]
 pub struct Numbering<'a> {
     pub index: RowIndex<'a>,
@@ -68,7 +68,7 @@ fn store_closed(waiting: &mut [u16], values: &mut [u64], b: usize, q: u16, v: u6
 }
 
 impl<'a> Numbering<'a> {
-    // Puts together what the check of a table leaves.
+    // Puts together what the check of a table leaves, the lent list and the arrays at one lifetime.
     pub fn new(
         rows: Rows<'a>,
         heads: &'a [u16],

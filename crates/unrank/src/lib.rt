@@ -38,6 +38,7 @@ struct Spot {
 
 // A table that passes, as its check leaves it for writing: its rows chained by target, its accepting list, what each state counts, for each row what the
 // rows before it with its target count, and the total.
+// (`WriteReady` and `ValueReady` stay with the methods: they name a list of states, and a method promises a row, so the fact cannot be truncated.)
 #[derive(Clone, Copy)]
 pub struct TreeWriter<'a> {
     pub by_target: ByTarget<'a>,
@@ -48,7 +49,7 @@ pub struct TreeWriter<'a> {
 }
 
 impl<'a> TreeWriter<'a> {
-    // Puts together what the check of a table leaves.
+    // Puts together what the check of a table leaves, the lent list and the arrays at one lifetime.
     pub fn new(
         rows: Rows<'a>,
         first: &'a [u16],
