@@ -1,7 +1,7 @@
 // Rows as words: one row by the grounds 2 to 5, and one number a row for all that comes after.
 #![tactic(auto)]
 
-ghost use Rattle.std.specs.Prelude.{◌≡◌, ◌+◌, ◌<◌, length, slice_index};
+ghost use Rattle.std.specs.Prelude.{◌≡◌, ◌+◌, ◌<◌, length};
 ghost use Rattle.std.proofs.Props.{props};
 ghost use Rattle.model.specs.Table.{args_at, Whole};
 ghost use Rattle.model.specs.Check.{cut, too_many};
@@ -17,16 +17,6 @@ pub struct Rows<'a> {
     pub pool: &'a [u16],
     pub words: &'a [u64],
     ghost held: { Held pool.now words.now (length words.now) } by { Prim.hlevel props },
-}
-
-impl<'a> Rows<'a> {
-    // The arguments of a row.
-    pub fn args(&self, k: usize) -> &'a [u16]
-        requires { k < length self.now.words.now }
-        ensures { result.now ≡ args_in self.now.pool.now (slice_index self.now.words.now k) }
-    {
-        args_in(self.pool, self.words[k])
-    }
 }
 
 // The word of a row whose arguments begin at `from` in the pool, with the index's link.
