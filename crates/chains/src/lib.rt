@@ -4,18 +4,6 @@
 ghost use Rattle.std.specs.Prelude.{◌≡◌};
 ghost use Rattle.chains.specs.Digest.{mixed_by};
 
-pub fn wide(x: u16) -> usize
-    ensures { result ≡ x }
-{
-    x as usize
-}
-
-pub fn wider(x: u16) -> u64
-    ensures { result ≡ x }
-{
-    x as u64
-}
-
 // One word more in a digest, by two factors: those of a digest stay the same.
 pub fn mixed<const A: u32, const B: u32>(h: u64, w: u64) -> u64
     ensures { result ≡ mixed_by A B h w }

@@ -20,7 +20,7 @@ use Rattle.model.specs.Value.{earlier_rows}
 use Rattle.model.proofs.Good.{Ordered}
 use Rattle.model.proofs.Counting.{map_agree, weight_local, state_counts_local, state_longest_local, count_eqn, longest_eqn, count_beyond}
 use Rattle.model.proofs.UsedKept.{cap, kept_alike, state_kept, earlier_kept, longest_kept, longest_alike}
-use Rattle.rows.specs.Words.{row_no, rows_in}
+use Rattle.rows.specs.Words.{row_no, rows_in, Held}
 use Rattle.rows.proofs.Words.{rows_long, row_held_lem, args_long}
 use Rattle.counts.specs.declared.Counted.{Counted}
 use Rattle.counts.specs.Chain.{target}
@@ -113,7 +113,8 @@ counting_begins states rows counts marks sums blank = record {
   earlier = λ k lt h. absurd (omega arith);
 }
 
-module _ {states : ℕ} {pool words first counts₀ marks₀ sums₀ counts marks sums : List ℕ} {q : ℕ} (g : CountReady states pool words first counts₀ marks₀ sums₀)
+module _ {states : ℕ} {pool words first counts₀ marks₀ sums₀ counts marks sums : List ℕ} {q : ℕ} (h : Held pool words (length words))
+    (g : CountReady states (rows_in pool words) first counts₀ marks₀ sums₀)
     (x : Counting states (rows_in pool words) counts₀ marks₀ sums₀ counts marks sums q) (lt : q < states) where
   abbrev rows : List Row
   rows = rows_in pool words
@@ -122,13 +123,14 @@ module _ {states : ℕ} {pool words first counts₀ marks₀ sums₀ counts mark
   T = row_table states rows
 
   -- an argument of a row of the state is a lower state
-  lower : (r : ℕ) → r < length words → target rows r ≡ q → (k : ℕ) → k < length (row_no rows r).args → get_or (row_no rows r).args k 0 < q
-  lower r l e k m = omega (arith, g.ordered.lower r (rw (rows_long pool words) l) k m, e)
+  lower : (r : ℕ) → r < length rows → target rows r ≡ q → (k : ℕ) → k < length (row_no rows r).args → get_or (row_no rows r).args k 0 < q
+  lower r l e k m = omega (arith, g.ordered.lower r l k m, e)
 
-  few : (r : ℕ) → r < length words → length (row_no rows r).args ≤ 16
+  few : (r : ℕ) → r < length rows → length (row_no rows r).args ≤ 16
   few r l =
-      let i = g.rows_held.inside r l in
-      rw (row_held_lem pool words r l, args_long pool (get_or words r 0) i) i.few
+      let m : r < length words = rw (rows_long pool words) at l in
+      let i = h.inside r m in
+      rw (row_held_lem pool words r m, args_long pool (get_or words r 0) i) i.few
 
   -- there is a place for the state in each list
   pub counts_here : q < length counts
@@ -137,12 +139,10 @@ module _ {states : ℕ} {pool words first counts₀ marks₀ sums₀ counts mark
   pub marks_here : q < length marks
   marks_here = omega (arith, g.room.marks_room, x.marks_long)
 
-  pub countable : Countable pool words first counts marks sums q
+  pub countable : Countable rows first counts marks sums q
   countable = record {
-    rows_held = g.rows_held;
-    chained = g.chained;
     state = omega (arith, g.room.first_room);
-    sums_room = omega (arith, g.room.sums_room, x.sums_long, rows_long pool words);
+    sums_room = omega (arith, g.room.sums_room, x.sums_long);
     marked = λ r l e. record {
       few = few r l;
       counted = λ k m. omega (arith, lower r l e k m, counts_here);
@@ -228,9 +228,9 @@ module _ {states : ℕ} {pool words first counts₀ marks₀ sums₀ counts mark
       earlier = λ k l h. earlier_more k l h (ltb (target rows k) q) refl;
     }
 
-pub counting_ends : {states : ℕ} {pool words first counts₀ marks₀ sums₀ counts marks sums : List ℕ} {q : ℕ} → CountReady states pool words first counts₀ marks₀ sums₀
-    → Counting states (rows_in pool words) counts₀ marks₀ sums₀ counts marks sums q → states ≤ q → CountedStates states (rows_in pool words) counts₀ marks₀ sums₀ counts marks sums
-counting_ends {states} {pool} {words} {counts = counts} {q = q} g x ge = record {
+pub counting_ends : {states : ℕ} {rows : List Row} {first counts₀ marks₀ sums₀ counts marks sums : List ℕ} {q : ℕ} → CountReady states rows first counts₀ marks₀ sums₀
+    → Counting states rows counts₀ marks₀ sums₀ counts marks sums q → states ≤ q → CountedStates states rows counts₀ marks₀ sums₀ counts marks sums
+counting_ends {states} {rows} {counts = counts} {q = q} g x ge = record {
   cs_long = x.counts_long;
   marks_long = x.marks_long;
   sums_long = x.sums_long;
@@ -242,8 +242,8 @@ counting_ends {states} {pool} {words} {counts = counts} {q = q} g x ge = record 
   };
 }
   where
-    side : (a : ℕ) → Dec (states ≤ a) → held counts a ≡ min (count (row_table states (rows_in pool words)) a) top
+    side : (a : ℕ) → Dec (states ≤ a) → held counts a ≡ min (count (row_table states rows) a) top
     side a (yes l) =
-        let z = count_beyond (row_table states (rows_in pool words)) a l in
+        let z = count_beyond (row_table states rows) a l in
         x.above a (omega (arith, x.within)) ∙ sym (ap (λ (v : ℕ). min v top) z)
     side a (no h) = (x.each a (omega (arith, lt_of_not-le h, ge))).low

@@ -15,9 +15,9 @@ use Rattle.model.specs.Table.{Row, no_row}
 use Rattle.model.specs.Count.{sum, product, largest, weight, row_longest, state_counts, state_longest}
 use Rattle.model.specs.Value.{earlier_rows}
 use Rattle.model.proofs.Counting.{get_d_map, sum_take_suc, largest_take_suc}
-use Rattle.rows.specs.Words.{after_in, args_in, rows_in, row_no, Inside}
+use Rattle.rows.specs.Words.{after_in, args_in, rows_in, row_no, afters, Inside, Held}
 use Rattle.rows.proofs.Words.{rows_long, row_held_lem}
-use Rattle.counts.specs.Chain.{target, leads, TargetLink}
+use Rattle.counts.specs.Chain.{target, leads, TargetLink, Chained}
 use Rattle.counts.specs.Marks.{top, ceiling, long_ceiling}
 use Rattle.counts.specs.Kept.{Is}
 use Rattle.counts.specs.States.{held, held_whole, held_long, MarksTell, weight_by, Summed, Countable}
@@ -176,7 +176,8 @@ module _ (rows : List Row) (c l : ℕ → ℕ) (q : ℕ) where
 abbrev pub StateSumming : (rows : List Row) (counts marks : List ℕ) (q : ℕ) (sums₀ sums : List ℕ) (count : Option ℕ) (long p : ℕ) → Type 0
 StateSumming rows counts marks q sums₀ sums count long p = Summing rows (held_whole counts marks) (held_long marks) q sums₀ sums count long p
 
-module _ {pool words first counts marks sums₀ sums : List ℕ} {q long p : ℕ} {count : Option ℕ} (c : Countable pool words first counts marks sums₀ q)
+module _ {pool words first counts marks sums₀ sums : List ℕ} {q long p : ℕ} {count : Option ℕ} (held_rows : Held pool words (length words))
+    (chained : Chained (rows_in pool words) first (afters words)) (c : Countable (rows_in pool words) first counts marks sums₀ q)
     (s : StateSumming (rows_in pool words) counts marks q sums₀ sums count long p) (pos : 0 < p) where
   abbrev rows : List Row
   rows = rows_in pool words
@@ -188,19 +189,19 @@ module _ {pool words first counts marks sums₀ sums : List ℕ} {q long p : ℕ
   row_here = rw (rows_long pool words) at (s.inside pos)
 
   pub sum_here : p - 1 < length sums
-  sum_here = omega (arith, row_here, c.sums_room, s.sums_long)
+  sum_here = omega (arith, s.inside pos, c.sums_room, s.sums_long)
 
   pub inside_here : Inside pool word
-  inside_here = c.rows_held.inside (p - 1) row_here
+  inside_here = held_rows.inside (p - 1) row_here
 
   args_here : (row_no rows (p - 1)).args ≡ args_in pool word
   args_here = ap (λ (r : Row). r.args) (row_held_lem pool words (p - 1) row_here)
 
   pub marked_here : (args : List ℕ) → args ≡ args_in pool word → MarksTell counts marks args
-  marked_here args e = rw (e ∙ sym args_here) (c.marked (p - 1) row_here (s.mine pos))
+  marked_here args e = rw (e ∙ sym args_here) (c.marked (p - 1) (s.inside pos) (s.mine pos))
 
   link_here : TargetLink rows q (suc (p - 1)) (length rows) (after_in word)
-  link_here = rw (s.mine pos, get_d_map after_in words (p - 1) 0 0 row_here) at (c.chained.afters (p - 1) (omega arith) (s.inside pos))
+  link_here = rw (s.mine pos, get_d_map after_in words (p - 1) 0 0 row_here) at (chained.afters (p - 1) (omega arith) (s.inside pos))
 
   -- the link behind it leads further
   pub link_further : (p' : ℕ) → p' ≡ after_in word → length rows - leads p' (length rows) < length rows - leads p (length rows)
@@ -214,12 +215,12 @@ module _ {pool words first counts marks sums₀ sums : List ℕ} {q long p : ℕ
         let a : args ≡ (row_no rows (p - 1)).args = e ∙ sym args_here in
         let t = marked_here args e in
         sum_goes rows (held_whole counts marks) (held_long marks) q s pos w k long' p' (rw a at (weight_is t marksum w row)) more
-        (rw a at (longest ∙ ap (λ (v : ℕ). max long v) (longer_told t marksum))) (rw (← link) at link_here) (omega (arith, c.sums_room, rows_long pool words))
+        (rw a at (longest ∙ ap (λ (v : ℕ). max long v) (longer_told t marksum))) (rw (← link) at link_here) c.sums_room
 
-pub state_begins : {pool words first counts marks sums : List ℕ} {q : ℕ} → Countable pool words first counts marks sums q
-    → (p : ℕ) → p ≡ get_or first q 0 → StateSumming (rows_in pool words) counts marks q sums sums (Some 0) 0 p
-state_begins {pool} {words} {first} {counts} {marks} {sums} {q} c p e =
-    sum_begins (rows_in pool words) (held_whole counts marks) (held_long marks) q sums p (rw e (c.chained.firsts q c.state))
+pub state_begins : (pool words : List ℕ) {first counts marks sums : List ℕ} {q : ℕ} → Chained (rows_in pool words) first (afters words)
+    → Countable (rows_in pool words) first counts marks sums q → (p : ℕ) → p ≡ get_or first q 0 → StateSumming (rows_in pool words) counts marks q sums sums (Some 0) 0 p
+state_begins pool words {first} {counts} {marks} {sums} {q} chained c p e =
+    sum_begins (rows_in pool words) (held_whole counts marks) (held_long marks) q sums p (rw e (chained.firsts q c.state))
 
 pub state_ends : (rows : List Row) (counts marks : List ℕ) (q : ℕ) {sums₀ sums : List ℕ} {count : Option ℕ} {long p : ℕ} (long' : ℕ)
     → StateSumming rows counts marks q sums₀ sums count long p → p ≤ 0 → long' ≡ min long long_ceiling

@@ -4,8 +4,8 @@ use Rattle.model.specs.Table.{Row, Table}
 use Rattle.model.specs.Count.{product, state_counts, state_longest, count, longest}
 use Rattle.model.specs.Value.{earlier_rows}
 use Rattle.counts.specs.declared.Counted.{Counted}
-use Rattle.rows.specs.Words.{row_no, rows_in, afters, Held}
-use Rattle.counts.specs.Chain.{target, InOrder, Chained}
+use Rattle.rows.specs.Words.{row_no}
+use Rattle.counts.specs.Chain.{target, InOrder}
 use Rattle.counts.specs.Marks.{top, ceiling, long_ceiling, long_in, over_in, over_of, Roomy, Tells}
 use Rattle.counts.specs.Kept.{Is}
 
@@ -63,13 +63,11 @@ weight_by s p = if leb 1099511627776 s then 0 else (if leb 4294967296 s then cei
 
 -- ---- one state
 
--- what one state is counted from: rows that are held and chained by target; the arguments of its rows have counts and marks
-pub record Countable (pool words first counts marks sums : List ℕ) (q : ℕ) : Type 0 where
-  pub rows_held : Held pool words (length words)
-  pub chained : Chained (rows_in pool words) first (afters words)
+-- what one state is counted from, beside the chains: the arguments of its rows have counts and marks
+pub record Countable (rows : List Row) (first counts marks sums : List ℕ) (q : ℕ) : Type 0 where
   pub state : q < length first
-  pub sums_room : length words ≤ length sums
-  pub marked : (r : ℕ) → r < length words → target (rows_in pool words) r ≡ q → MarksTell counts marks (row_no (rows_in pool words) r).args
+  pub sums_room : length rows ≤ length sums
+  pub marked : (r : ℕ) → r < length rows → target rows r ≡ q → MarksTell counts marks (row_no rows r).args
 
 -- its count and its longest tree, from what is held for the states below it, and for each of its rows the sum of those before it
 pub record Summed (rows : List Row) (counts marks : List ℕ) (q : ℕ) (sums₀ sums : List ℕ) (r : Counted) : Type 0 where
@@ -92,12 +90,10 @@ pub record CountRoom (states : ℕ) (rows : List Row) (first cs marks sums : Lis
   pub marks_room : states ≤ length marks
   pub sums_room : length rows ≤ length sums
 
--- what counting the states in turn starts from
-pub record CountReady (states : ℕ) (pool words first counts marks sums : List ℕ) : Type 0 where
-  pub rows_held : Held pool words (length words)
-  pub ordered : InOrder states (rows_in pool words)
-  pub chained : Chained (rows_in pool words) first (afters words)
-  pub room : CountRoom states (rows_in pool words) first counts marks sums
+-- what counting the states in turn starts from, beside the chains
+pub record CountReady (states : ℕ) (rows : List Row) (first counts marks sums : List ℕ) : Type 0 where
+  pub ordered : InOrder states rows
+  pub room : CountRoom states rows first counts marks sums
   pub blank : (a : ℕ) → held counts a ≡ 0
 
 -- the states are counted: each count and each sum of earlier rows kept to 64 bits, each longest tree to 4,097, and the mark tells which count is more;

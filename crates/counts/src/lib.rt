@@ -162,6 +162,7 @@ fn longer_of(long: u64, s: u64) -> u64
 }
 
 // Chains the rows by their targets, in their order, by links in their words.
+// (Pool, words and first links come apart: what is written here is what a `ByTarget` is made of.)
 pub fn chain_rows(pool: &[u16], words: &mut [u64], first: &mut [u16])
     requires { Chainable pool.now words.old first.old }
     ensures { ChainedRows pool.now words.old first.old words.new first.new }
@@ -174,56 +175,51 @@ pub fn chain_rows(pool: &[u16], words: &mut [u64], first: &mut [u16])
     }
 }
 
-// Counts state q by its rows, and stores for each row what the state's earlier rows count together, kept to 64 bits.
-fn count_state(
-    pool: &[u16],
-    words: &[u64],
-    first: &[u16],
-    counts: &[u64],
-    marks: &[u64],
-    sums: &mut [u64],
-    q: usize,
-) -> Counted
-    requires { Countable pool.now words.now first.now counts.now marks.now sums.old q }
-    ensures { Summed (rows_in pool.now words.now) counts.now marks.now q
-        sums.old sums.new result }
-{
-    let mut count = Some(0);
-    let mut long: u64 = 0;
-    let mut p = usize::from(first[q]);
-    while 0 < p {
-        let r = p - 1;
-        let word = words[r];
-        let args = rows::args_in(pool, word);
-        sums[r] = count.unwrap_or(u64::MAX);
-        let s = row_sum(args, marks);
-        count = plus(count, row_weight(s, args, counts));
-        long = longer_of(long, s);
-        p = rows::after_in(word);
+impl ByTarget<'_> {
+    // Counts state q by its rows, and stores for each row what the state's earlier rows count together, kept to 64 bits.
+    fn count_state(&self, counts: &[u64], marks: &[u64], sums: &mut [u64], q: usize) -> Counted
+        requires { Countable (rows_in self.now.rows.pool.now self.now.rows.words.now) self.now.first.now
+            counts.now marks.now sums.old q }
+        ensures { Summed (rows_in self.now.rows.pool.now self.now.rows.words.now) counts.now marks.now q
+            sums.old sums.new result }
+    {
+        let Rows { pool, words } = self.rows;
+        let mut count = Some(0);
+        let mut long: u64 = 0;
+        let mut p = usize::from(self.first[q]);
+        while 0 < p {
+            let r = p - 1;
+            let word = words[r];
+            let args = rows::args_in(pool, word);
+            sums[r] = count.unwrap_or(u64::MAX);
+            let s = row_sum(args, marks);
+            count = plus(count, row_weight(s, args, counts));
+            long = longer_of(long, s);
+            p = rows::after_in(word);
+        }
+        Counted {
+            count,
+            longest: long.min(LENGTH_CEILING),
+        }
     }
-    Counted {
-        count,
-        longest: long.min(LENGTH_CEILING),
-    }
-}
 
-// Counts the states in turn from 0, whatever they count.
-pub fn count_states(
-    states: usize,
-    pool: &[u16],
-    words: &[u64],
-    first: &[u16],
-    counts: &mut [u64],
-    marks: &mut [u64],
-    sums: &mut [u64],
-)
-    requires { CountReady states pool.now words.now first.now counts.old marks.old sums.old }
-    ensures { CountedStates states (rows_in pool.now words.now) counts.old marks.old
-        sums.old counts.new marks.new sums.new }
-{
-    for q in 0..states {
-        let s = count_state(pool, words, first, counts, marks, sums, q);
-        counts[q] = s.count.unwrap_or(u64::MAX);
-        marks[q] = mark_of(s.count, s.longest);
+    // Counts the states in turn from 0, whatever they count.
+    pub fn count_states(
+        &self,
+        states: usize,
+        counts: &mut [u64],
+        marks: &mut [u64],
+        sums: &mut [u64],
+    )
+        requires { CountReady states (rows_in self.now.rows.pool.now self.now.rows.words.now) self.now.first.now
+            counts.old marks.old sums.old }
+        ensures { CountedStates states (rows_in self.now.rows.pool.now self.now.rows.words.now) counts.old marks.old
+            sums.old counts.new marks.new sums.new }
+    {
+        for q in 0..states {
+            let s = self.count_state(counts, marks, sums, q);
+            counts[q] = s.count.unwrap_or(u64::MAX);
+            marks[q] = mark_of(s.count, s.longest);
+        }
     }
 }

@@ -104,6 +104,7 @@ fn hash(by: u64, size: usize, key: u64, args: &[u16]) -> usize
 }
 
 // The row among the first n with the symbol and count of a key and these arguments, whose bucket is b, by at most so many steps along its chain.
+// (Not over a RowIndex: enter_row seeks while the words and heads are being filled. Not a `for`: the links say where the next step goes.)
 fn seek(
     pool: &[u16],
     words: &[u64],
@@ -201,6 +202,7 @@ pub fn take_rows(
     ensures { Taken by most states rows.now words.new heads.new result }
 {
     let mut at = 0;
+    // not a `for`: each row's count of arguments says where the next row begins
     let mut n = 0;
     while at < rows.len() {
         if let Err(kind) = rows::step_row(states, rows, n, at) {

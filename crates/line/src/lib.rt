@@ -125,6 +125,7 @@ fn put_number(n: u64, out: &mut [u8]) -> usize
 }
 
 // Puts the output line of a refusal: its number and its place.
+// (By hand: what the list then holds is promised, and no clause knows which bytes `write!` leaves in a slice.)
 fn put_refusal(r: Refusal, out: &mut [u8]) -> usize
     requires { longest_line ≤ length out.old }
     ensures { Begins out.new (printed (refused_by r) decimal) result }

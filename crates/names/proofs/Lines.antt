@@ -19,7 +19,8 @@ use Rattle.model.proofs.Alike.{same_folded, same_sym, same_trans}
 use Rattle.model.proofs.Names.{some_lines, no_lines, line_first, line_none}
 use Rattle.words.specs.Words.{is_inner}
 use Rattle.chains.specs.Chains.{Clear}
-use Rattle.std.specs.Prelude.{Some, None}
+use Rattle.std.specs.Prelude.{Some, None, Option}
+use Rattle.std.specs.Option.{is_some}
 use Rattle.chains.proofs.First.{first_none, first_is, apart}
 use Rattle.chains.proofs.Chains.{chained, chains_begin}
 use Rattle.model.proofs.Lists.{drop_next, same_long}
@@ -300,11 +301,20 @@ module _ {seed : ℕ} {names starts heads next : List ℕ} {n at : ℕ} (s : Sof
     pub part_inner : all_inner (take (end - at) (drop at names)) ≡ true
     part_inner = ap all_inner part_is ∙ inner
 
+    -- its bucket
+    pub part_bucket : {b : ℕ} → b ≡ hash_of seed (stretch (drop at names)) → b ≡ hash_of seed (take (end - at) (drop at names))
+    part_bucket q = q ∙ ap (hash_of seed) stretch_part
+
     -- the name stands on an earlier line
-    pub again : (k : ℕ) → name_found names n (take (end - at) (drop at names)) ≡ Some k → (o : Outcome) → refused 17 n ≡ names_then names o
-    again k f =
-        let g = first_is (λ j. same_name (line_at names j).bytes (line_at names n).bytes) n k (rw (part_is) at f) in
+    pub again : (f : Option ℕ) → f ≡ name_found names n (take (end - at) (drop at names)) → is_some f ≡ true → (o : Outcome) → refused 17 n ≡ names_then names o
+    again None p t = let z : ◌≡◌ {A = ℕ} 0 1 = cc in absurd (omega arith)
+    again (Some k) p t =
+        let g = first_is (λ j. same_name (line_at names j).bytes (line_at names n).bytes) n k (rw (part_is) at (sym p)) in
         faulty (rw (or-true) at (ground _ true _ _ refl (any_true n k (λ j. same_name (line_at names j).bytes (line_at names n).bytes) g.0 g.1) refl refl))
+
+    pub on_none : (f : Option ℕ) → f ≡ name_found names n (take (end - at) (drop at names)) → is_some f ≡ false → name_found names n (take (end - at) (drop at names)) ≡ None
+    on_none None p t = sym p
+    on_none (Some k) p t = let z : ◌≡◌ {A = ℕ} 0 1 = cc in absurd (omega arith)
 
     -- it stands on none
     module _ (few : n < 255) (b : ℕ) (q : b ≡ hash_of seed (take (end - at) (drop at names))) (lt : b < 512) (none : name_found names n (take (end - at) (drop at names)) ≡ None) where

@@ -90,20 +90,13 @@ pub record NamesIndexed (seed : ℕ) (names starts heads next : List ℕ) (n : �
   pub chains : Chains (bucket_of seed names) 512 256 n heads next
   pub apart : (j k : ℕ) → j < k → k < n → same_name (line_at names j).bytes (line_at names k).bytes ≡ false
 
--- a name is looked for by the index of some seed, in the bucket that this seed gives it
-pub record Sought (names starts heads next : List ℕ) (n : ℕ) (name : List ℕ) (b : ℕ) : Type 0 where
-  pub seed : ℕ
-  pub indexed : NamesIndexed seed names starts heads next n
-  pub hashed : b ≡ hash_of seed name
-  pub below : b < 512
-
 -- the first line begins at the front
 pub record Started (starts : List ℕ) : Type 0 where
   pub long : length starts ≡ 256
   pub first : get_or starts 0 0 ≡ 0
 
 -- the refusal, or what follows where the list keeps to the rules
-abbrev pub names_check_then : Result ℕ Refusal → Outcome → Outcome
+abbrev pub names_check_then : {A : Type 0} → Result A Refusal → Outcome → Outcome
 names_check_then (Ok n) otherwise = otherwise
 names_check_then (Err r) otherwise = refused_by r
 

@@ -1,11 +1,13 @@
 // Names lists: refusal 17, and the line with a name.
 #![tactic(auto)]
 
-ghost use Rattle.std.specs.Prelude.{◌≡◌, true, ◌+◌, ◌<◌, ◌≤◌, length, drop};
-ghost use Rattle.model.specs.Names.{is_letter, is_name_byte, all_name_bytes, same_name, line_at};
+ghost use Rattle.std.specs.Prelude.{◌≡◌, true, ◌+◌, ◌<◌, ◌≤◌, length, drop, IfOk};
+ghost use Rattle.std.proofs.Props.{props};
+ghost use Rattle.model.specs.Answers.{Outcome};
+ghost use Rattle.model.specs.Names.{is_letter, is_name_byte, all_name_bytes, same_name, line_at, how_many_names, names_then};
 ghost use Rattle.chains.specs.Chains.{Clear};
 ghost use Rattle.words.specs.Words.{is_list_byte};
-ghost use Rattle.names.specs.NamesIndex.{caseless, all_inner, stretch, front_of, mixed, bucket_at, StretchFrom, OnlyListBytes, name_end, name_found, Lined, Sought, Started, NamesAnswer};
+ghost use Rattle.names.specs.NamesIndex.{caseless, all_inner, stretch, front_of, mixed, bucket_at, hash_of, StretchFrom, OnlyListBytes, name_end, name_found, Lined, NamesIndexed, Started, names_check_then, NamesAnswer};
 
 use chains::mixed;
 use model::{Kind, Refusal, refuse};
@@ -113,7 +115,7 @@ fn bucket(h: u64) -> usize
 
 // A seed for the hash, from the list's bytes, sixteen at a time, up to the 6,368th. No answer depends on it; names that share a bucket by one seed
 // do not by another.
-pub fn list_seed(names: &[u8]) -> u64 {
+fn list_seed(names: &[u8]) -> u64 {
     let mut seed = 0;
     for i in (0..6368).step_by(16) {
         if names.len() < i + 16 {
@@ -192,78 +194,154 @@ fn name_end(names: &[u8], clean: bool, at: usize, end: usize) -> Option<usize>
     }
 }
 
-// The name on a line, as a part of the list.
-pub fn name_at<'a>(names: &'a [u8], starts: &[u16; 256], n: usize, k: usize) -> &'a [u8]
-    requires lined { Lined names.now starts.now n }
-    requires k_lt_n { k < n }
-    ensures { result.now ≡ (line_at names.now k).bytes }
-{
-    let from = usize::from(starts[k]);
-    let end = usize::from(starts[k + 1]) - 1;
-    &names[from..end]
+// The first n lines of a names list, each of them a name: where each begins.
+#[derive(Clone, Copy)]
+pub struct NameLines<'a> {
+    pub names: &'a [u8],
+    pub starts: &'a [u16; 256],
+    pub n: usize,
+    ghost lined: { Lined names.now starts.now n } by { Prim.hlevel props },
 }
 
-// The line among the first n whose name is equal to this; b is the name's bucket.
-pub fn find_name(
-    names: &[u8],
-    starts: &[u16; 256],
-    heads: &[u16; 512],
-    next: &[u16; 256],
-    n: usize,
-    b: usize,
-    name: &[u8],
-) -> Option<usize>
-    requires sought { Sought names.now starts.now heads.now next.now n name.now b }
-    requires name_value { all_inner name.now ≡ true }
-    ensures { result ≡ name_found names.now n name.now }
-{
-    let mut p = usize::from(heads[b]);
-    while 0 < p {
-        let k = p - 1;
-        if same_name(name_at(names, starts, n, k), name) {
-            return Some(k);
-        }
-        p = usize::from(next[k]);
+impl<'a> NameLines<'a> {
+    // The name on a line, as a part of the list.
+    pub fn name(&self, k: usize) -> &'a [u8]
+        requires { k < self.now.n }
+        ensures { result.now ≡ (line_at self.now.names.now k).bytes }
+    {
+        let from = usize::from(self.starts[k]);
+        let end = usize::from(self.starts[k + 1]) - 1;
+        &self.names[from..end]
     }
-    None
 }
 
-// How many names the list has, or refusal 17 at the first faulty line. Where there is none, `starts` then holds where each line begins, and `heads`
-// and `next` index the names.
-pub fn check_names(
-    names: &[u8],
-    seed: u64,
-    starts: &mut [u16; 256],
-    heads: &mut [u16; 512],
-    next: &mut [u16; 256],
-) -> Result<usize, Refusal>
-    requires started { Started starts.old }
-    requires clear { Clear 512 256 heads.old next.old }
-    ensures { NamesAnswer seed names.now starts.new heads.new next.new result }
-{
-    let clean = only_list_bytes(names);
-    let mut n = 0;
-    let mut at = 0;
-    while at < names.len() {
-        if 255 <= n {
-            return Err(refuse(Kind::FaultyNames, n as u64));
+// Lines, no two of which have equal names, and the index of their names, by hashes that begin with a seed.
+// (The chains of a bucket are links in an array, and not a map: the library has no heap.)
+#[derive(Clone, Copy)]
+pub struct NamesIndex<'a> {
+    pub lines: NameLines<'a>,
+    pub heads: &'a [u16; 512],
+    pub next: &'a [u16; 256],
+    pub seed: u64,
+    ghost indexed: { NamesIndexed seed lines.names.now lines.starts.now heads.now next.now lines.n } by { Prim.hlevel props },
+}
+
+impl<'a> NamesIndex<'a> {
+    // The line whose name is equal to this; b is the name's bucket.
+    pub fn find(&self, b: usize, name: &[u8]) -> Option<usize>
+        requires hashed { (b ≡ hash_of self.now.seed name.now) × (b < 512) }
+        requires name_value { all_inner name.now ≡ true }
+        ensures { result ≡ name_found self.now.lines.names.now self.now.lines.n name.now }
+    {
+        let mut p = usize::from(self.heads[b]);
+        while 0 < p {
+            let k = p - 1;
+            if same_name(self.lines.name(k), name) {
+                return Some(k);
+            }
+            p = usize::from(self.next[k]);
         }
-        let stretch = stretch_at(names, at, seed);
-        let Some(end) = name_end(names, clean, at, stretch.end) else {
-            return Err(refuse(Kind::FaultyNames, n as u64));
+        None
+    }
+}
+
+// A names list that keeps to the rules: all its lines, and their index.
+#[derive(Clone, Copy)]
+pub struct NamesList<'a> {
+    pub index: NamesIndex<'a>,
+    ghost whole: { index.lines.n ≡ how_many_names index.lines.names.now } by { Prim.hlevel props },
+}
+
+// Room for where the lines of a names list begin, and for the index of their names.
+// `starts` and `next` stay two arrays: n lines have n + 1 starts and n links, and writing a term takes the starts alone.
+#[derive(Drop)]
+pub struct NamesRoom {
+    pub starts: [u16; 256],
+    pub heads: [u16; 512],
+    pub next: [u16; 256],
+}
+
+impl NamesRoom {
+    // Room with nothing in it.
+    pub fn new() -> NamesRoom
+        ensures { Started result.starts × Clear 512 256 result.heads result.next }
+    {
+        NamesRoom {
+            starts: [0; 256],
+            heads: [0; 512],
+            next: [0; 256],
+        }
+    }
+
+    // How many names the list has, or refusal 17 at the first faulty line. Where there is none, all its lines are then known.
+    fn fill(&mut self, names: &[u8], seed: u64) -> Result<usize, Refusal>
+        requires { Started self.old.starts × Clear 512 256 self.old.heads self.old.next }
+        ensures { NamesAnswer seed names.now self.new.starts self.new.heads self.new.next result }
+    {
+        // taken apart, as the proof does not close where structs are made of `self`'s fields in a loop that writes them
+        let NamesRoom {
+            starts,
+            heads,
+            next,
+        } = self;
+        let clean = only_list_bytes(names);
+        // not a `for`: each line's end says where the next line begins
+        let mut n = 0;
+        let mut at = 0;
+        while at < names.len() {
+            if 255 <= n {
+                return Err(refuse(Kind::FaultyNames, n as u64));
+            }
+            let stretch = stretch_at(names, at, seed);
+            let Some(end) = name_end(names, clean, at, stretch.end) else {
+                return Err(refuse(Kind::FaultyNames, n as u64));
+            };
+            let b = stretch.bucket;
+            let lines = NameLines {
+                names,
+                starts: &*starts,
+                n,
+            };
+            let index = NamesIndex {
+                lines,
+                heads: &*heads,
+                next: &*next,
+                seed,
+            };
+            if index.find(b, &names[at..end]).is_some() {
+                return Err(refuse(Kind::FaultyNames, n as u64));
+            }
+            next[n] = heads[b];
+            n += 1;
+            heads[b] = n as u16;
+            at = end + 1;
+            starts[n] = at as u16;
+        }
+        if n == 0 {
+            return Err(refuse(Kind::FaultyNames, 0));
+        }
+        Ok(n)
+    }
+
+    // The list, if it keeps to the rules, or refusal 17 at the first faulty line.
+    pub fn check<'a>(&'a mut self, names: &'a [u8]) -> Result<NamesList<'a>, Refusal>
+        requires { Started self.old.starts × Clear 512 256 self.old.heads self.old.next }
+        ensures decided { (o : Outcome) → names_check_then result o ≡ names_then names.now o }
+        ensures of_names { IfOk result (λ l. l.index.lines.names.now ≡ names.now) }
+    {
+        let seed = list_seed(names);
+        let n = self.fill(names, seed)?;
+        let lines = NameLines {
+            names,
+            starts: &self.starts,
+            n,
         };
-        let b = stretch.bucket;
-        if let Some(_) = find_name(names, &*starts, &*heads, &*next, n, b, &names[at..end]) {
-            return Err(refuse(Kind::FaultyNames, n as u64));
-        }
-        next[n] = heads[b];
-        n += 1;
-        heads[b] = n as u16;
-        at = end + 1;
-        starts[n] = at as u16;
+        let index = NamesIndex {
+            lines,
+            heads: &self.heads,
+            next: &self.next,
+            seed,
+        };
+        Ok(NamesList { index })
     }
-    if n == 0 {
-        return Err(refuse(Kind::FaultyNames, 0));
-    }
-    Ok(n)
 }

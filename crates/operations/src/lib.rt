@@ -9,6 +9,9 @@ ghost use Rattle.rows.specs.Walk.{Room};
 ghost use Rattle.operations.specs.Answered.{task_prepares, Answered, WroteTree};
 
 use model::Answer;
+use rank::Numbering;
+use rows::Rows;
+use unrank::TreeWriter;
 
 // What is asked of a table: its total, the number of the tree that is lent, or the tree of a number.
 // (An enum, told apart in one match: as three closures, each would have to state again all that the check leaves.)
@@ -31,11 +34,11 @@ fn prepares(task: Task) -> bool
 }
 
 // Answers with room for so many rows and states, and so many buckets.
-fn answer_in<const ROWS: usize, const STATES: usize, const HEADS: usize>(
+fn answer_in<'a, const ROWS: usize, const STATES: usize, const HEADS: usize>(
     task: Task,
     states: u64,
-    rows: &[u16],
-    accepting: &[u16],
+    rows: &'a [u16],
+    accepting: &'a [u16],
     tree: &[u16],
     out: &mut [u16],
 ) -> Answer
@@ -45,6 +48,8 @@ fn answer_in<const ROWS: usize, const STATES: usize, const HEADS: usize>(
     requires few { (ROWS ≤ 1024) × (STATES ≤ 256) }
     ensures { Answered task states rows.now accepting.now tree.now out.old out.new result }
 {
+    // arrays beside one another, and not of structs: what is said of words, counts and sums is said of lists of numbers, and each step of the check
+    // borrows those that it writes
     let mut words = [0u64; ROWS];
     let mut heads = [0u16; HEADS];
     let mut first = [0u16; STATES];
@@ -65,29 +70,20 @@ fn answer_in<const ROWS: usize, const STATES: usize, const HEADS: usize>(
         &mut used,
         &mut sums,
     )?;
+    let held = Rows {
+        pool: rows,
+        words: &words[..checked.rows],
+    };
     match task {
         Task::Check => Ok(checked.total),
-        Task::Number => rank::number_prepared(
-            rows,
-            accepting,
-            tree,
-            &words[..checked.rows],
-            &heads,
-            checked.by,
-            &counts,
-            &sums,
-        ),
-        Task::Write(number) => unrank::write_prepared(
-            rows,
-            accepting,
-            &words[..checked.rows],
-            &first,
-            &counts,
-            &sums,
-            checked.total,
-            number,
-            out,
-        ),
+        Task::Number => {
+            let numbering = Numbering::new(held, &heads, checked.by, accepting, &counts, &sums);
+            numbering.number(tree)
+        }
+        Task::Write(number) => {
+            let writer = TreeWriter::new(held, &first, accepting, &counts, &sums, checked.total);
+            writer.write(number, out)
+        }
     }
 }
 
@@ -112,6 +108,7 @@ fn answer(
 }
 
 // Checks a table and gives its total.
+// (Here and below a table is three parameters, no struct: the C interface and docs/SPEC-MAP.md name these functions and their lists so.)
 pub fn check(states: u64, rows: &[u16], accepting: &[u16]) -> Answer
     ensures { outcome result ≡ check_outcome states rows.now accepting.now }
 {

@@ -5,11 +5,13 @@ use mathlib.Core.Path.{◌≡◌, refl, sym, ap, ◌∙◌}
 use mathlib.Core.Bool.{true, false, ◌&&◌, ◌||◌}
 use mathlib.Core.List.{List, [], ◌∷◌, ◌++◌, map}
 use native.Mathlib.Omega.{arith}
+use native.Mathlib.Bridge.{le_prop}
+use Rattle.std.proofs.Props.{props}
 use native.Mathlib.Numerals.{add-one}
-use mathlib.Core.Logic.{◌⊎◌, inl, inr}
+use mathlib.Core.Logic.{◌⊎◌, inl, inr, ∥∥₁_elim}
 use native.Mathlib.Nat.{zero-sub, pos_of_ne-zero, eq-zero-or-pos}
-use lib.ListN.{length, get_or, set, take, drop, replicate, length-replicate, length-set, length-drop, drop_of_length-le}
-use lib.Seq.{take-nil, take_all, get_or-set_same, get_or-set_other, take-suc-set, length-take-le, take-take, get_or-take, get_or-drop}
+use lib.ListN.{length, get_or, set, take, drop, replicate, length-replicate, length-map, get_or-map, length-set, length-drop, drop_of_length-le}
+use lib.Seq.{take-nil, take_all, get_or-set_same, get_or-set_other, take-suc-set, length-take-le, take-take, map-set, get_or-take, get_or-drop}
 use lib.Dec.{ltb, eqb}
 use borrow.Author.Count.{below_more}
 use borrow.Author.Tests.{eqb-false, ltb-false}
@@ -36,7 +38,8 @@ use Rattle.tree.specs.declared.Reading.{Reading}
 use Rattle.tree.specs.declared.Step.TheVariants.{Opens, Closes}
 use Rattle.tree.proofs.Laws.{Read, refusing, opens_by, closes_by, opened, shut, refused_here, begins as read_begins}
 use Rattle.rank.specs.Machine.{Node, formed, node_by, node_of, numbered, run, machine}
-use Rattle.rank.specs.RankReady.{ValuesFit, Closable, Summable, AllCount, RankReady, StackRoom}
+use Rattle.rank.specs.RankReady.{ValuesFit, Closable, Summable, AllCount, RankReady, StackRoom, symbols, begins}
+use Rattle.rank.specs.declared.OpenNode.{OpenNode}
 use Rattle.rank.proofs.Folding.{valued_below, unformed, formed_is}
 
 -- ---- an array as a stack
@@ -69,6 +72,27 @@ drop_take zero n l = let e : n - 0 ≡ n = omega arith in rw e
 drop_take (suc b) zero l = rw zero-sub
 drop_take (suc b) (suc n) [] = rw take-nil
 drop_take (suc b) (suc n) (x ∷ l) = let e : suc n - suc b ≡ n - b = omega arith in rw e (drop_take b n l)
+
+-- ---- the open nodes, by their symbols and by what was waiting
+
+abbrev no_node : OpenNode
+no_node = record { symbol = 0; begin = 0 }
+
+module _ (opens : List OpenNode) (d : ℕ) where
+  pub symbol_at : get_or (symbols opens) d 0 ≡ (get_or opens d no_node).symbol
+  symbol_at = get_or-map (λ (n : OpenNode). n.symbol) opens d no_node
+
+  pub node_at : (rows : List Row) (cs sums xs vs : List ℕ) {o : Node} → node_of rows cs sums (get_or opens d no_node).symbol xs vs ≡ o → node_of rows cs sums (get_or (symbols opens) d 0) xs vs ≡ o
+  node_at rows cs sums xs vs e = rw symbol_at e
+
+  pub begin_at : (b : ℕ) → b ≡ (get_or opens d no_node).begin → b ≡ get_or (begins opens) d 0
+  begin_at b e = e ∙ sym (get_or-map (λ (n : OpenNode). n.begin) opens d no_node)
+
+  pub in_opens : (i : ℕ) → i < length (symbols opens) → i < length opens
+  in_opens i l = rw (length-map opens (λ (n : OpenNode). n.symbol)) at l
+
+  pub node_put : (n : OpenNode) (opens' : List OpenNode) → opens' ≡ set opens d n → (symbols opens' ≡ set (symbols opens) d n.symbol) × (begins opens' ≡ set (begins opens) d n.begin)
+  node_put n opens' e = (ap symbols e ∙ map-set (λ (n : OpenNode). n.symbol) opens d n, ap begins e ∙ map-set (λ (n : OpenNode). n.begin) opens d n)
 
 -- ---- one entry of the machine
 
@@ -180,7 +204,7 @@ module _ {by : ℕ} {pool words heads accepting cs sums : List ℕ} (ready : Ran
 
 -- i entries are read: the open nodes and what waits stand in the arrays, and the machine goes on from there
 pub record Running (by : ℕ) (pool words heads accepting cs sums tree opens₀ begins₀ waiting₀ values₀ opens begins waiting values : List ℕ) (w : ℕ) (s : Reading) (i : ℕ) : Type 0 where
-  pub ready : RankReady by pool words heads accepting cs sums
+  pub ready : ∥ RankReady by pool words heads accepting cs sums ∥₁
   pub reads : Read tree s i
   pub space : StackRoom tree opens₀ begins₀ waiting₀ values₀
   pub opens_long : length opens ≡ length opens₀
@@ -194,7 +218,7 @@ pub record Running (by : ℕ) (pool words heads accepting cs sums tree opens₀ 
   pub under : (j : ℕ) → j < s.depth → get_or begins j 0 ≤ w
   pub sorted : (j k : ℕ) → j ≤ k → k < s.depth → get_or begins j 0 ≤ get_or begins k 0
   pub placed : (j : ℕ) → j < w → get_or waiting j 0 < length cs
-  pub reached : (j : ℕ) → j < w → 0 < ready.whole (get_or waiting j 0)
+  pub reached : (x : RankReady by pool words heads accepting cs sums) (j : ℕ) → j < w → 0 < x.whole (get_or waiting j 0)
   pub below : (j : ℕ) → j < w → get_or values j 0 < max 1 (held cs (get_or waiting j 0))
   pub same : run (node_of (rows_in pool words) cs sums) (numbered accepting cs) (stack_of s.depth opens) (stack_of s.depth begins) (take w waiting) (take w values) i (drop i tree)
       ≡ machine (rows_in pool words) accepting cs sums tree
@@ -205,7 +229,7 @@ zeros_room tree n short l =
     let e : length {A = ℕ} (replicate n 0) ≡ n = length-replicate {A = ℕ} n 0 in
     record { short = short; opens_room = rw e l; begins_room = rw e l; waiting_room = rw e l; values_room = rw e l }
 
-pub running_begins : {by : ℕ} {pool words heads accepting cs sums : List ℕ} (tree opens begins waiting values : List ℕ) (s : Reading) → RankReady by pool words heads accepting cs sums → StackRoom tree opens begins waiting values → s ≡ fresh
+pub running_begins : {by : ℕ} {pool words heads accepting cs sums : List ℕ} (tree opens begins waiting values : List ℕ) (s : Reading) → ∥ RankReady by pool words heads accepting cs sums ∥₁ → StackRoom tree opens begins waiting values → s ≡ fresh
     → Running by pool words heads accepting cs sums tree opens begins waiting values opens begins waiting values 0 s 0
 running_begins tree opens begins waiting values s ready space e =
     let d : s.depth ≡ 0 = ap (λ (r : Reading). r.depth) e in
@@ -223,7 +247,7 @@ running_begins tree opens begins waiting values s ready space e =
       under = λ j l. absurd (omega arith);
       sorted = λ j k le l. absurd (omega arith);
       placed = λ j l. absurd (omega arith);
-      reached = λ j l. absurd (omega arith);
+      reached = λ x j l. absurd (omega arith);
       below = λ j l. absurd (omega arith);
       same = rw (d, no_stack opens, no_stack begins);
     }
@@ -324,8 +348,8 @@ module _ {by : ℕ} {pool words heads accepting cs sums tree opens₀ begins₀ 
       )
 
       -- the children's states and values
-      children : Children r.ready.whole cs (take (w - b) (drop b waiting)) (take (w - b) (drop b values))
-      children =
+      children : (x : RankReady by pool words heads accepting cs sums) → Children x.whole cs (take (w - b) (drop b waiting)) (take (w - b) (drop b values))
+      children x =
           let len_w : length (take (w - b) (drop b waiting)) ≡ w - b = length-take-le (w - b) (drop b waiting) (rw (length-drop b waiting) (omega (arith, few_wait.1, close_under))) in
           let len_v : length (take (w - b) (drop b values)) ≡ w - b = length-take-le (w - b) (drop b values) (rw (length-drop b values) (omega (arith, few_wait.2, close_under))) in
           let at_w : (k : ℕ) → k < w - b → get_or (take (w - b) (drop b waiting)) k 0 ≡ get_or waiting (b + k) 0 = λ k lt. get_or-take (w - b) (drop b waiting) k 0 lt ∙ get_or-drop b waiting k 0 in
@@ -333,12 +357,12 @@ module _ {by : ℕ} {pool words heads accepting cs sums tree opens₀ begins₀ 
           record {
             many = len_v ∙ sym len_w;
             placed = λ k lt. let lk : k < w - b = rw len_w at lt in rw (at_w k lk) (r.placed (b + k) (omega arith));
-            reached = λ k lt. let lk : k < w - b = rw len_w at lt in rw (at_w k lk) (r.reached (b + k) (omega arith));
+            reached = λ k lt. let lk : k < w - b = rw len_w at lt in rw (at_w k lk) (r.reached x (b + k) (omega arith));
             below = λ k lt. let lk : k < w - b = rw len_w at lt in rw (at_w k lk, at_v k lk) (r.below (b + k) (omega arith));
           }
 
       pub close_fits : Closable rows cs sums (get_or opens t.depth 0) (take (w - b) (drop b waiting)) (take (w - b) (drop b values))
-      close_fits = closes_within r.ready (get_or opens t.depth 0) (take (w - b) (drop b waiting)) (take (w - b) (drop b values)) children
+      close_fits = ∥∥₁_elim r.ready (Prim.hlevel props) (λ x. closes_within x (get_or opens t.depth 0) (take (w - b) (drop b waiting)) (take (w - b) (drop b values)) (children x))
 
       -- the machine at the bar
       at_bar : run (node_of rows cs sums) (numbered accepting cs) (get_or opens t.depth 0 ∷ stack_of t.depth opens) (b ∷ stack_of t.depth begins) (take w waiting) (take w values) i (get_or tree i 0 ∷ drop (i + 1) tree)
@@ -365,7 +389,7 @@ module _ {by : ℕ} {pool words heads accepting cs sums tree opens₀ begins₀ 
           → (waiting' values' : List ℕ) → (waiting' ≡ set waiting b q) × (values' ≡ set values b v)
           → Running by pool words heads accepting cs sums tree opens₀ begins₀ waiting₀ values₀ opens begins waiting' values' (b + 1) t (i + 1)
       node_closes q v h waiting' values' stored =
-          let x = node_below r.ready (get_or opens t.depth 0) (take (w - b) (drop b waiting)) (take (w - b) (drop b values)) children q v h in
+          let node = λ (x : RankReady by pool words heads accepting cs sums). node_below x (get_or opens t.depth 0) (take (w - b) (drop b waiting)) (take (w - b) (drop b values)) (children x) q v h in
           let here_w : get_or (set waiting b q) b 0 ≡ q = get_or-set_same waiting b q 0 close_room.0 in
           let here_v : get_or (set values b v) b 0 ≡ v = get_or-set_same values b v 0 close_room.1 in
           let other_w : (j : ℕ) → j < b → get_or (set waiting b q) j 0 ≡ get_or waiting j 0 = λ j lt. get_or-set_other waiting b j q 0 (omega arith) in
@@ -383,10 +407,10 @@ module _ {by : ℕ} {pool words heads accepting cs sums tree opens₀ begins₀ 
             some = λ p. omega arith;
             under = λ j lt. omega (arith, at, r.sorted j t.depth (omega arith) (omega (arith, deeper)));
             sorted = λ j k le lt. r.sorted j k le (omega (arith, deeper));
-            placed = below_more (λ (j : ℕ). get_or (set waiting b q) j 0 < length cs) b (λ j lt. rw (other_w j lt) (r.placed j (omega (arith, close_under)))) (rw here_w x.0);
-            reached = below_more (λ (j : ℕ). 0 < r.ready.whole (get_or (set waiting b q) j 0)) b (λ j lt. rw (other_w j lt) (r.reached j (omega (arith, close_under)))) (rw here_w x.1);
+            placed = below_more (λ (j : ℕ). get_or (set waiting b q) j 0 < length cs) b (λ j lt. rw (other_w j lt) (r.placed j (omega (arith, close_under)))) (rw here_w (∥∥₁_elim r.ready le_prop (λ x. (node x).0)));
+            reached = λ x. below_more (λ (j : ℕ). 0 < x.whole (get_or (set waiting b q) j 0)) b (λ j lt. rw (other_w j lt) (r.reached x j (omega (arith, close_under)))) (rw here_w (node x).1);
             below = below_more (λ (j : ℕ). get_or (set values b v) j 0 < max 1 (held cs (get_or (set waiting b q) j 0))) b
-                (λ j lt. rw (other_w j lt, other_v j lt) (r.below j (omega (arith, close_under)))) (rw (here_w, here_v) x.2);
+                (λ j lt. rw (other_w j lt, other_v j lt) (r.below j (omega (arith, close_under)))) (rw (here_w, here_v) (∥∥₁_elim r.ready le_prop (λ x. (node x).2)));
             same =
                 rw (front waiting q close_room.0, front values v close_room.1)
                 (sym (run_close (node_of rows cs sums) (numbered accepting cs) (stack_of t.depth opens) (stack_of t.depth begins) (take w waiting) (take w values) i
@@ -419,7 +443,7 @@ module _ {by : ℕ} {pool words heads accepting cs sums tree opens₀ begins₀ 
     end_room = (omega (arith, one_waits, few_wait.1), omega (arith, one_waits, few_wait.2))
 
     pub end_sums : Summable accepting cs (get_or waiting 0 0) (get_or values 0 0)
-    end_sums = record { below = r.below 0 one_waits; placed = r.ready.placed; small = r.ready.total }
+    end_sums = record { below = r.below 0 one_waits; placed = λ k l. ∥∥₁_elim r.ready le_prop (λ x. x.placed k l); small = ∥∥₁_elim r.ready le_prop (λ x. x.total) }
 
     pub tree_ends : numbered accepting cs (get_or waiting 0 0) (get_or values 0 0) (length tree - 1) ≡ machine rows accepting cs sums tree
     tree_ends =

@@ -9,6 +9,7 @@ use Rattle.rows.specs.Words.{row_no, rows_in, nexts, held_table, Held}
 use Rattle.counts.specs.Chain.{target}
 use Rattle.counts.specs.States.{held}
 use Rattle.counts.specs.Prepared.{UsedCounts}
+use Rattle.rank.specs.declared.OpenNode.{OpenNode}
 
 -- one value for each state, below the state's count
 pub record ValuesFit (cs xs vs : List ℕ) : Type 0 where
@@ -70,6 +71,13 @@ pub record TableReady (by states : ℕ) (pool words heads accepting cs sums : Li
   pub counts_room : states ≤ length cs
   pub sums_room : length words ≤ length sums
   pub counted : UsedCounts (held_table states pool words accepting) cs sums
+
+-- of nodes that are open, the symbols, and how many states were waiting
+abbrev pub symbols : List OpenNode → List ℕ
+symbols opens = map (λ (n : OpenNode). n.symbol) opens
+
+abbrev pub begins : List OpenNode → List ℕ
+begins opens = map (λ (n : OpenNode). n.begin) opens
 
 -- the tree has at most 4,096 entries, and each array has a place for every second one: no more nodes are open at once, nor closed and waiting
 pub record StackRoom (tree opens begins waiting values : List ℕ) : Type 0 where

@@ -6,16 +6,22 @@ ghost use Rattle.model.specs.Answers.{outcome};
 ghost use Rattle.model.specs.Tree.{WellFormed};
 ghost use Rattle.model.specs.Value.{horner};
 ghost use Rattle.model.specs.Entries.{tree_then};
-ghost use Rattle.rows.specs.Words.{rows_in, nexts, Held};
-ghost use Rattle.index.specs.Index.{Index};
+ghost use Rattle.rows.specs.Words.{rows_in};
 ghost use Rattle.counts.specs.States.{held};
 ghost use Rattle.rank.specs.Machine.{formed, node_of, numbered, machine};
-ghost use Rattle.rank.specs.RankReady.{Foldable, Formable, Closable, Summable, RankReady, StackRoom};
+ghost use Rattle.rank.specs.RankReady.{Foldable, Formable, Closable, Summable, RankReady, StackRoom, symbols, begins};
 
 use index::RowIndex;
 use model::{Answer, Kind, refuse};
 use rows::Rows;
 use tree::{Reading, Step};
+
+// A node that is open: its symbol, and how many states were waiting when it was opened.
+#[derive(Clone, Copy)]
+struct OpenNode {
+    symbol: u16,
+    begin: u16,
+}
 
 // The children's values as one: for each child from the first, multiply by the count of its state and add its value.
 fn fold(states: &[u16], values: &[u64], counts: &[u64]) -> u64
@@ -29,69 +35,30 @@ fn fold(states: &[u16], values: &[u64], counts: &[u64]) -> u64
     h
 }
 
-// The value of a tree in its state q, by its row k. An unused state counts 0, and no value is formed in it: 0 stands there.
-fn value_in(counts: &[u64], sums: &[u64], states: &[u16], values: &[u64], k: usize, q: u16) -> u64
-    requires { Formable counts.now sums.now states.now values.now k q }
-    ensures { result ≡ formed counts.now sums.now states.now values.now k q }
-{
-    if counts[usize::from(q)] == 0 {
-        return 0;
-    }
-    fold(states, values, counts) + sums[k]
-}
-
-// The state that a tree with this symbol reaches, whose children have these states and values, and its value there; or nothing if it reaches none.
-fn close<'a>(
-    pool: &'a [u16],
-    words: &'a [u64],
-    heads: &'a [u16],
-    by: u64,
-    counts: &[u64],
-    sums: &[u64],
-    symbol: u16,
-    states: &[u16],
-    values: &[u64],
-) -> Option<(u16, u64)>
-    requires held { Held pool.now words.now (length words.now) }
-    requires index { Index by (rows_in pool.now words.now) heads.now (nexts words.now) }
-    requires closable { Closable (rows_in pool.now words.now) counts.now sums.now symbol states.now values.now }
-    ensures { result ≡ node_of (rows_in pool.now words.now) counts.now sums.now
-        symbol states.now values.now }
-{
-    let rows = Rows { pool, words };
-    let index = RowIndex { rows, heads, by };
-    let k = index.find(symbol, states)?;
-    let q = rows::target_in(words[k]);
-    Some((q, value_in(counts, sums, states, values, k, q)))
-}
-
-// The number of a tree with this state and value; 14 at the given place if the state is not listed. The value is added last, so that no sum
-// goes beyond the total.
-fn number_in(accepting: &[u16], counts: &[u64], q: u16, value: u64, place: usize) -> Answer
-    requires { Summable accepting.now counts.now q value }
-    ensures { outcome result ≡ numbered accepting.now counts.now q value place }
-{
-    let mut earlier: u64 = 0;
-    for a in accepting {
-        if *a == q {
-            let number = value + earlier;
-            return Ok(number);
-        }
-        earlier += counts[usize::from(*a)];
-    }
-    Err(refuse(Kind::NotAccepted, place as u64))
+// A table that passes, as its check leaves it for numbering: its rows and their index, its accepting list, what each used state counts, and for each
+// row what the rows before it with its target count.
+#[derive(Clone, Copy)]
+pub struct Numbering<'a> {
+    pub index: RowIndex<'a>,
+    pub accepting: &'a [u16],
+    pub counts: &'a [u64],
+    pub sums: &'a [u64],
+    ghost ready: { ∥ RankReady index.by index.rows.pool.now index.rows.words.now index.heads.now accepting.now counts.now sums.now ∥₁ },
 }
 
 // Opens a node inside d open ones: stores its symbol, and how many states are waiting.
-fn open_node(opens: &mut [u16], begins: &mut [u16], d: usize, symbol: u16, w: usize)
-    requires { (d < length opens.old) × (d < length begins.old) × (w ≤ 2048) }
-    ensures { (opens.new ≡ set opens.old d symbol) × (begins.new ≡ set begins.old d w) }
+fn open_node(opens: &mut [OpenNode], d: usize, symbol: u16, w: usize)
+    requires { (d < length opens.old) × (w ≤ 2048) }
+    ensures { opens.new ≡ set opens.old d (record { symbol = symbol; begin = w }) }
 {
-    opens[d] = symbol;
-    begins[d] = w as u16;
+    opens[d] = OpenNode {
+        symbol,
+        begin: w as u16,
+    };
 }
 
 // Stores the state and the value of a closed node in place of its children's, which stand from b on.
+// (Two arrays: the index takes a slice of states, `fold` one of values.)
 fn store_closed(waiting: &mut [u16], values: &mut [u64], b: usize, q: u16, v: u64)
     requires { (b < length waiting.old) × (b < length values.old) }
     ensures { (waiting.new ≡ set waiting.old b q) × (values.new ≡ set values.old b v) }
@@ -100,115 +67,129 @@ fn store_closed(waiting: &mut [u16], values: &mut [u64], b: usize, q: u16, v: u6
     values[b] = v;
 }
 
-// The number of a tree, entry by entry: an entry opens a node, or closes one whose children's states and values are waiting. Of each open node
-// `opens` has its symbol and `begins` how many states were waiting when it was opened; the first w of `waiting` and `values` are the states and the
-// values of closed nodes that wait for their parent's bar.
-fn number_tree(
-    pool: &[u16],
-    accepting: &[u16],
-    tree: &[u16],
-    words: &[u64],
-    heads: &[u16],
-    by: u64,
-    counts: &[u64],
-    sums: &[u64],
-    opens: &mut [u16],
-    begins: &mut [u16],
-    waiting: &mut [u16],
-    values: &mut [u64],
-) -> Answer
-    requires rank_ready { RankReady by pool.now words.now heads.now accepting.now counts.now sums.now }
-    requires well_formed { WellFormed tree.now × StackRoom tree.now opens.old begins.old waiting.old values.old }
-    ensures { outcome result ≡ machine (rows_in pool.now words.now) accepting.now
-        counts.now sums.now tree.now }
-{
-    let mut w: usize = 0;
-    let mut s = Reading::new();
-    for (i, e) in tree.iter().enumerate() {
-        // no entry of a tree is refused
-        match s.entry(*e)? {
-            Step::Opens(t) => {
-                open_node(opens, begins, t.depth - 1, *e, w);
-                s = t;
-            }
-            Step::Closes(t) => {
-                let d = t.depth;
-                let b = usize::from(begins[d]);
-                let Some((q, v)) = close(
-                    pool,
-                    words,
-                    heads,
-                    by,
-                    counts,
-                    sums,
-                    opens[d],
-                    &waiting[b..w],
-                    &values[b..w],
-                ) else {
-                    return Err(refuse(Kind::NotAccepted, i as u64));
-                };
-                store_closed(waiting, values, b, q, v);
-                w = b + 1;
-                s = t;
-            }
+impl<'a> Numbering<'a> {
+    // Puts together what the check of a table leaves.
+    pub fn new(
+        rows: Rows<'a>,
+        heads: &'a [u16],
+        by: u64,
+        accepting: &'a [u16],
+        counts: &'a [u64],
+        sums: &'a [u64],
+    ) -> Numbering<'a>
+        requires { RankReady by rows.pool.now rows.words.now heads.now accepting.now counts.now sums.now }
+        ensures { (result.index.rows.pool.now ≡ rows.entry.pool.now) × (result.index.rows.words.now ≡ rows.entry.words.now) × (result.index.heads.now ≡ heads.now)
+            × (result.index.by ≡ by) × (result.accepting.now ≡ accepting.now) × (result.counts.now ≡ counts.now) × (result.sums.now ≡ sums.now) }
+    {
+        let index = RowIndex { rows, heads, by };
+        Numbering {
+            index,
+            accepting,
+            counts,
+            sums,
         }
     }
-    number_in(accepting, counts, waiting[0], values[0], tree.len() - 1)
-}
 
-// The number of a tree of at most 4,096 entries: at most 2,048 nodes are open or waiting.
-// (Its arrays are set up at its start. In line in its caller, clang 22 sets them up behind the first tests, and loses what it holds in a register.)
-#[inline(never)]
-fn number_formed(
-    pool: &[u16],
-    accepting: &[u16],
-    tree: &[u16],
-    words: &[u64],
-    heads: &[u16],
-    by: u64,
-    counts: &[u64],
-    sums: &[u64],
-) -> Answer
-    requires rank_ready { RankReady by pool.now words.now heads.now accepting.now counts.now sums.now }
-    requires well_formed { WellFormed tree.now × (length tree.now ≤ 4096) }
-    ensures { outcome result ≡ machine (rows_in pool.now words.now) accepting.now
-        counts.now sums.now tree.now }
-{
-    let mut opens = [0u16; 2048];
-    let mut begins = [0u16; 2048];
-    let mut waiting = [0u16; 2048];
-    let mut values = [0u64; 2048];
-    number_tree(
-        pool,
-        accepting,
-        tree,
-        words,
-        heads,
-        by,
-        counts,
-        sums,
-        &mut opens,
-        &mut begins,
-        &mut waiting,
-        &mut values,
-    )
-}
+    // The value of a tree in its state q, by its row k. An unused state counts 0, and no value is formed in it: 0 stands there.
+    fn value_in(&self, states: &[u16], values: &[u64], k: usize, q: u16) -> u64
+        requires { Formable self.now.counts.now self.now.sums.now states.now values.now k q }
+        ensures { result ≡ formed self.now.counts.now self.now.sums.now states.now values.now k q }
+    {
+        if self.counts[usize::from(q)] == 0 {
+            return 0;
+        }
+        fold(states, values, self.counts) + self.sums[k]
+    }
 
-// Numbers a tree of a table that passes, by what its check leaves.
-pub fn number_prepared(
-    pool: &[u16],
-    accepting: &[u16],
-    tree: &[u16],
-    words: &[u64],
-    heads: &[u16],
-    by: u64,
-    counts: &[u64],
-    sums: &[u64],
-) -> Answer
-    requires { RankReady by pool.now words.now heads.now accepting.now counts.now sums.now }
-    ensures { outcome result ≡ tree_then tree.now (machine (rows_in pool.now words.now) accepting.now
-        counts.now sums.now tree.now) }
-{
-    tree::check_tree(tree)?;
-    number_formed(pool, accepting, tree, words, heads, by, counts, sums)
+    // The state that a tree with this symbol reaches, whose children have these states and values, and its value there; or nothing if it reaches none.
+    fn close(&self, symbol: u16, states: &[u16], values: &[u64]) -> Option<(u16, u64)>
+        requires { Closable (rows_in self.now.index.rows.pool.now self.now.index.rows.words.now) self.now.counts.now self.now.sums.now symbol states.now values.now }
+        ensures { result ≡ node_of (rows_in self.now.index.rows.pool.now self.now.index.rows.words.now) self.now.counts.now self.now.sums.now
+            symbol states.now values.now }
+    {
+        let k = self.index.find(symbol, states)?;
+        let q = rows::target_in(self.index.rows.words[k]);
+        Some((q, self.value_in(states, values, k, q)))
+    }
+
+    // The number of a tree with this state and value; 14 at the given place if the state is not listed. The value is added last, so that no sum
+    // goes beyond the total.
+    fn number_in(&self, q: u16, value: u64, place: usize) -> Answer
+        requires { Summable self.now.accepting.now self.now.counts.now q value }
+        ensures { outcome result ≡ numbered self.now.accepting.now self.now.counts.now q value place }
+    {
+        let mut earlier: u64 = 0;
+        for a in self.accepting {
+            if *a == q {
+                let number = value + earlier;
+                return Ok(number);
+            }
+            earlier += self.counts[usize::from(*a)];
+        }
+        Err(refuse(Kind::NotAccepted, place as u64))
+    }
+
+    // The number of a tree, entry by entry: an entry opens a node, or closes one whose children's states and values are waiting. The
+    // first w of `waiting` and `values` are the states and the values of closed nodes that wait for their parent's bar.
+    fn number_tree(
+        &self,
+        tree: &[u16],
+        opens: &mut [OpenNode],
+        waiting: &mut [u16],
+        values: &mut [u64],
+    ) -> Answer
+        requires { WellFormed tree.now × StackRoom tree.now (symbols opens.old) (begins opens.old) waiting.old values.old }
+        ensures { outcome result ≡ machine (rows_in self.now.index.rows.pool.now self.now.index.rows.words.now) self.now.accepting.now
+            self.now.counts.now self.now.sums.now tree.now }
+    {
+        let mut w: usize = 0;
+        let mut s = Reading::new();
+        for (i, e) in tree.iter().enumerate() {
+            // no entry of a tree is refused
+            match s.entry(*e)? {
+                Step::Opens(t) => {
+                    open_node(opens, t.depth - 1, *e, w);
+                    s = t;
+                }
+                Step::Closes(t) => {
+                    let OpenNode { symbol, begin } = opens[t.depth];
+                    let b = usize::from(begin);
+                    let Some((q, v)) = self.close(symbol, &waiting[b..w], &values[b..w]) else {
+                        return Err(refuse(Kind::NotAccepted, i as u64));
+                    };
+                    store_closed(waiting, values, b, q, v);
+                    w = b + 1;
+                    s = t;
+                }
+            }
+        }
+        self.number_in(waiting[0], values[0], tree.len() - 1)
+    }
+
+    // The number of a tree of at most 4,096 entries: at most 2,048 nodes are open or waiting.
+    // (Its arrays are set up at its start. In line in its caller, clang 22 sets them up behind the first tests, and loses what it holds in a register.)
+    #[inline(never)]
+    fn number_formed(&self, tree: &[u16]) -> Answer
+        requires { WellFormed tree.now × (length tree.now ≤ 4096) }
+        ensures { outcome result ≡ machine (rows_in self.now.index.rows.pool.now self.now.index.rows.words.now) self.now.accepting.now
+            self.now.counts.now self.now.sums.now tree.now }
+    {
+        let none = OpenNode {
+            symbol: 0,
+            begin: 0,
+        };
+        let mut opens = [none; 2048];
+        let mut waiting = [0u16; 2048];
+        let mut values = [0u64; 2048];
+        self.number_tree(tree, &mut opens, &mut waiting, &mut values)
+    }
+
+    // Numbers a tree.
+    pub fn number(&self, tree: &[u16]) -> Answer
+        ensures { outcome result ≡ tree_then tree.now (machine (rows_in self.now.index.rows.pool.now self.now.index.rows.words.now)
+            self.now.accepting.now self.now.counts.now self.now.sums.now tree.now) }
+    {
+        tree::check_tree(tree)?;
+        self.number_formed(tree)
+    }
 }

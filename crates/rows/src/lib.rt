@@ -11,6 +11,7 @@ ghost use Rattle.rows.specs.Walk.{above, out_by, row_fault, row_step};
 use model::Kind;
 
 // Rows as words: each holds a row whose arguments stand in the pool.
+// (The links of the index and of the targets are parts of the words, and not lists of their own: the library has no heap.)
 #[derive(Clone, Copy)]
 pub struct Rows<'a> {
     pub pool: &'a [u16],

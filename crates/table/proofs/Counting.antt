@@ -43,11 +43,9 @@ module _ {states : ℕ} {pool words accepting first counts marks used sums : Lis
   }
 
   module _ {words' first' : List ℕ} (x : ChainedRows pool words first words' first') where
-    pub count_ready : CountReady states pool words' first' counts marks sums
+    pub count_ready : CountReady states (rows_in pool words') first' counts marks sums
     count_ready = record {
-      rows_held = x.held;
       ordered = rw x.same s.ordered;
-      chained = x.chained;
       room = record {
         first_room = rw x.first_long s.room.first_room;
         cs_room = s.room.cs_room;
@@ -70,9 +68,7 @@ module _ {states : ℕ} {pool words accepting first counts marks used sums : Lis
 
       pub settle_ready : SettleReady states pool accepting words' first' counts' marks' used sums'
       settle_ready = record {
-        rows_held = x.held;
         ordered = count_ready.ordered;
-        chained = x.chained;
         listed = record { placed = s.listed };
         room = record {
           first_room = count_ready.room.first_room;

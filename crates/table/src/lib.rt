@@ -8,8 +8,10 @@ ghost use Rattle.counts.specs.States.{held, ArgsPlaced};
 ghost use Rattle.index.specs.Hash.{Multiplier};
 ghost use Rattle.table.specs.Checked.{Empty, CrowdReady, RowsReady, RowsChecked, EntriesChecked, total_or11, StatesReady, StatesAnswer, Blank, CheckAnswer};
 
+use counts::ByTarget;
 use index::{TakeError, two};
 use model::{Answer, Kind, Refusal, refuse};
+use rows::Rows;
 
 // How many rows there are, and the multiplier of their index.
 #[derive(Clone, Copy)]
@@ -139,14 +141,17 @@ fn check_states(
         first.new counts.new sums.new result }
 {
     counts::chain_rows(pool, words, first);
-    counts::count_states(states, pool, words, first, counts, marks, sums);
+    let rows = Rows { pool, words };
+    let by_target = ByTarget { rows, first };
+    by_target.count_states(states, counts, marks, sums);
     used::settle(
-        prepare, states, pool, accepting, words, first, counts, marks, used, sums,
+        prepare, states, accepting, &by_target, counts, marks, used, sums,
     )?;
     total_of(accepting, counts)
 }
 
 // The check of a table, which leaves in the lent arrays what writing needs of one that passes, and what numbering needs if it is to prepare for that.
+// (They stay apart, and no struct of `&mut`s: each step fills some of them and reads others, and its contract says of each what it then holds.)
 pub fn check_into(
     prepare: bool,
     states: u64,

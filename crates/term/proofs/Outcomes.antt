@@ -26,7 +26,7 @@ use Rattle.scan.specs.TextState.{place_of}
 use Rattle.term.specs.Emit.{entries_text}
 use Rattle.term.specs.Pass.{unlisted_at, Cleared, pass_then, Passed}
 use Rattle.term.specs.Written.{Front, EntriesNamed, Gave, ReadTerm, WriteTerm}
-use Rattle.names.specs.NamesIndex.{NamesAnswer}
+use Rattle.names.specs.NamesIndex.{names_check_then}
 use Rattle.term.proofs.EntriesText.{entries_text_lem}
 
 -- an answer with its list
@@ -96,14 +96,13 @@ pub text_too_long : (names text : List ℕ) (room : ℕ) → 65536 < length text
 text_too_long names text room l = rw (lt-ltb 65536 (length text) l)
 
 -- 17
-module _ {seed : ℕ} {names starts heads next : List ℕ} {r : Result ℕ Refusal} (x : NamesAnswer seed names starts heads next r) where
+module _ {A : Type 0} (names : List ℕ) {r : Result A Refusal} (decided : (o : Outcome) → names_check_then r o ≡ names_then names o) where
   pub faulty_names : (k : Refusal) (o : Outcome) → r ≡ Err k → refused_by k ≡ names_then names o
-  faulty_names k o e = rw e at (x.decided o)
+  faulty_names k o e = rw e at (decided o)
 
-  pub sound_names : (n : ℕ) (o : Outcome) → r ≡ Ok n → o ≡ names_then names o
-  sound_names n o e = rw e at (x.decided o)
+  pub sound_names : (l : A) (o : Outcome) → r ≡ Ok l → o ≡ names_then names o
+  sound_names l o e = rw e at (decided o)
 
--- the whole
 pub read_by : (names text : List ℕ) (room : ℕ) → names_then names (read_named 4096 names text room) ≡ read_term_outcome names text room
 unfolding read_term_outcome
 read_by names text room = refl

@@ -3,18 +3,17 @@
 
 ghost use Rattle.std.specs.Prelude.{◌≡◌, false, ◌+◌, ◌-◌, ◌<◌, ◌≤◌, length, get_or, take, ltb, eqb};
 ghost use Rattle.model.specs.Answers.{refused_by};
-ghost use Rattle.model.specs.Names.{is_name_byte, how_many_names};
+ghost use Rattle.model.specs.Names.{is_name_byte};
 ghost use Rattle.model.specs.Tree.{WellFormed};
 ghost use Rattle.model.specs.TermOperations.{fits_in, read_named, write_fits, write_formed, write_named};
 ghost use Rattle.chains.specs.First.{first_with};
-ghost use Rattle.names.specs.NamesIndex.{NamesIndexed, Lined};
 ghost use Rattle.scan.specs.TextState.{scanned};
 ghost use Rattle.term.specs.Emit.{entry_text, closing, mark_after, entries_text};
-ghost use Rattle.term.specs.Written.{Put, Copied, Front, EntriesNamed, Gave, ReadBy, WriteBy, ReadTerm, WriteTerm};
+ghost use Rattle.term.specs.Written.{Put, Front, EntriesNamed, Gave, ReadBy, WriteBy, ReadTerm, WriteTerm};
 ghost use Rattle.term.specs.Pass.{Closing, Follows, unlisted_at, SymbolPut, Cleared, Passed};
 
 use model::{Answer, Kind, Refusal, refuse};
-use names::{check_names, find_name, list_seed, name_at, stretch_at};
+use names::{NameLines, NamesList, NamesRoom, stretch_at};
 use scan::scan_text;
 use tree::check_tree;
 use words::{put_word, word_at};
@@ -94,28 +93,17 @@ fn put_symbol(entries: &mut [u8; 4096], at: usize, symbol: u8)
 
 // Reads the text, and keeps the entries of its tree, as many as there is room for: gives how many it has, or refusal 19 or 20. The bars are there:
 // the array is cleared. What is looked up is the stretch of bytes from `-` to `z`: if it is listed it is a name, and if not the scan decides.
-fn read_text(
-    names: &[u8],
-    seed: u64,
-    starts: &[u16; 256],
-    heads: &[u16; 512],
-    next: &[u16; 256],
-    n: usize,
-    text: &[u8],
-    entries: &mut [u8; 4096],
-) -> Result<usize, Refusal>
-    requires names_indexed { NamesIndexed seed names.now starts.now heads.now next.now n }
-    requires n_value { n ≡ how_many_names names.now }
-    requires text_len_bound { (length text.now ≤ 65536) × Cleared entries.old }
-    ensures { Passed names.now text.now entries.new result }
+fn read_text(list: &NamesList, text: &[u8], entries: &mut [u8; 4096]) -> Result<usize, Refusal>
+    requires { (length text.now ≤ 65536) × Cleared entries.old }
+    ensures { Passed list.now.index.lines.names.now text.now entries.new result }
 {
     let mut at = 0;
     let mut depth = 0;
     let mut i = 0;
     loop {
-        let stretch = stretch_at(text, i, seed);
+        let stretch = stretch_at(text, i, list.index.seed);
         let end = stretch.end;
-        let Some(k) = find_name(names, starts, heads, next, n, stretch.bucket, &text[i..end]) else {
+        let Some(k) = list.index.find(stretch.bucket, &text[i..end]) else {
             return Err(unlisted(text, i));
         };
         put_symbol(&mut *entries, at, (k + 1) as u8);
@@ -156,25 +144,14 @@ fn put_tree(entries: &[u8; 4096], needed: usize, tree: &mut [u16]) -> Answer
 }
 
 // Reads a text by a names list that keeps to the rules.
-fn read_named(
-    names: &[u8],
-    seed: u64,
-    starts: &[u16; 256],
-    heads: &[u16; 512],
-    next: &[u16; 256],
-    n: usize,
-    text: &[u8],
-    tree: &mut [u16],
-) -> Answer
-    requires names_indexed { NamesIndexed seed names.now starts.now heads.now next.now n }
-    requires n_value { n ≡ how_many_names names.now }
-    ensures { ReadBy (read_named 4096) names.now text.now tree.old tree.new result }
+fn read_named(list: &NamesList, text: &[u8], tree: &mut [u16]) -> Answer
+    ensures { ReadBy (read_named 4096) list.now.index.lines.names.now text.now tree.old tree.new result }
 {
     if 65536 < text.len() {
         return Err(refuse(Kind::TextTooLong, 0));
     }
     let mut entries = [0u8; 4096];
-    let needed = read_text(names, seed, starts, heads, next, n, text, &mut entries)?;
+    let needed = read_text(list, text, &mut entries)?;
     put_tree(&entries, needed, tree)
 }
 
@@ -182,12 +159,9 @@ fn read_named(
 pub fn read_term(names: &[u8], text: &[u8], tree: &mut [u16]) -> Answer
     ensures { ReadTerm names.now text.now tree.old tree.new result }
 {
-    let mut starts = [0u16; 256];
-    let mut heads = [0u16; 512];
-    let mut next = [0u16; 256];
-    let seed = list_seed(names);
-    let n = check_names(names, seed, &mut starts, &mut heads, &mut next)?;
-    read_named(names, seed, &starts, &heads, &next, n, text, tree)
+    let mut room = NamesRoom::new();
+    let list = room.check(names)?;
+    read_named(&list, text, tree)
 }
 
 // The first entry that is a symbol above the count of names.
@@ -219,73 +193,62 @@ fn closing_length(before: u16, e: u16) -> usize
 }
 
 // How many bytes the first entry gives.
-fn first_length(names: &[u8], starts: &[u16; 256], n: usize, e: u16) -> usize
-    requires lined { Lined names.now starts.now n }
-    requires e_le_n { e ≤ n }
-    ensures { (result ≡ length (entry_text names.now 0 e)) × (result ≤ 25) }
+fn first_length(lines: &NameLines, e: u16) -> usize
+    requires { e ≤ lines.now.n }
+    ensures { (result ≡ length (entry_text lines.now.names.now 0 e)) × (result ≤ 25) }
 {
     if e == 0 {
         return 0;
     }
-    name_at(names, starts, n, usize::from(e) - 1).len()
+    lines.name(usize::from(e) - 1).len()
 }
 
 // How many bytes an entry gives after another one. A line has one byte more than its name, where the text has the separator.
-fn entry_length(names: &[u8], starts: &[u16; 256], n: usize, before: u16, e: u16) -> usize
-    requires lined { Lined names.now starts.now n }
-    requires e_le_n { e ≤ n }
-    ensures { (result ≡ length (entry_text names.now (mark_after before) e)) × (result ≤ 25) }
+fn entry_length(lines: &NameLines, before: u16, e: u16) -> usize
+    requires { e ≤ lines.now.n }
+    ensures { (result ≡ length (entry_text lines.now.names.now (mark_after before) e)) × (result ≤ 25) }
 {
-    usize::from(starts[usize::from(e)]) - usize::from(starts[line_before(e)])
+    usize::from(lines.starts[usize::from(e)]) - usize::from(lines.starts[line_before(e)])
         + closing_length(before, e)
 }
 
 // How many bytes the tree's term has.
-fn text_length(names: &[u8], starts: &[u16; 256], n: usize, tree: &[u16]) -> usize
-    requires lined { Lined names.now starts.now n }
-    requires entries_named { EntriesNamed n tree.now }
-    ensures { result ≡ length (entries_text names.now 0 tree.now) }
+fn text_length(lines: &NameLines, tree: &[u16]) -> usize
+    requires { EntriesNamed lines.now.n tree.now }
+    ensures { result ≡ length (entries_text lines.now.names.now 0 tree.now) }
 {
     if tree.is_empty() {
         return 0;
     }
-    let mut sum = first_length(names, starts, n, tree[0]);
+    let mut sum = first_length(lines, tree[0]);
     for i in 1..tree.len() {
-        sum += entry_length(names, starts, n, tree[i - 1], tree[i]);
+        sum += entry_length(lines, tree[i - 1], tree[i]);
     }
     sum
 }
 
-// Puts bytes at a place one by one.
-fn put_few(text: &mut [u8], at: usize, bytes: &[u8])
-    requires { at + length bytes.now ≤ length text.old }
-    ensures { Copied (length bytes.now) text.old text.new at bytes.now }
+// Puts bytes one by one over as many others.
+fn put_few(to: &mut [u8], bytes: &[u8])
+    requires { length to.old ≡ length bytes.now }
+    ensures { to.new ≡ bytes.now }
 {
     for (i, b) in bytes.iter().enumerate() {
-        text[at + i] = *b;
+        to[i] = *b;
     }
 }
 
-// Puts four to eight bytes: the first four, and the last four, which may overlap them.
-fn put_fours(text: &mut [u8], at: usize, bytes: &[u8])
-    requires { (4 ≤ length bytes.now) × (length bytes.now ≤ 8) × (at + length bytes.now ≤ length text.old) }
-    ensures { Copied (length bytes.now) text.old text.new at bytes.now }
+// Puts bytes over as many others, N at a time; the last N may overlap those before them.
+fn put_words<const N: usize>(to: &mut [u8], bytes: &[u8])
+    requires n_value { (0 < N) × (N ≤ 8) }
+    requires same_len { length to.old ≡ length bytes.now }
+    requires n_le_bytes { N ≤ length bytes.now }
+    ensures { to.new ≡ bytes.now }
 {
-    let last = bytes.len() - 4;
-    put_word::<4>(&mut *text, at, word_at::<4>(bytes, 0));
-    put_word::<4>(text, at + last, word_at::<4>(bytes, last));
-}
-
-// Puts eight bytes or more by words; the last eight may overlap the word before them.
-fn put_long(text: &mut [u8], at: usize, bytes: &[u8])
-    requires { (8 ≤ length bytes.now) × (at + length bytes.now ≤ length text.old) }
-    ensures { Copied (length bytes.now) text.old text.new at bytes.now }
-{
-    let last = bytes.len() - 8;
-    for k in 0..last.div_ceil(8) {
-        put_word::<8>(&mut *text, at + 8 * k, word_at::<8>(bytes, 8 * k));
+    let last = bytes.len() - N;
+    for k in 0..(bytes.len() - 1) / N {
+        put_word::<N>(&mut *to, N * k, word_at::<N>(bytes, N * k));
     }
-    put_word::<8>(text, at + last, word_at::<8>(bytes, last));
+    put_word::<N>(to, last, word_at::<N>(bytes, last));
 }
 
 // Puts the bytes at a place; gives the place after them.
@@ -294,30 +257,23 @@ pub fn put_bytes(text: &mut [u8], at: usize, bytes: &[u8]) -> usize
     ensures { Put text.old text.new bytes.now at result }
 {
     let after = at + bytes.len();
+    let to = &mut text[at..after];
     if 8 <= bytes.len() {
-        put_long(text, at, bytes);
+        put_words::<8>(to, bytes);
     } else if 4 <= bytes.len() {
-        put_fours(text, at, bytes);
+        put_words::<4>(to, bytes);
     } else {
-        put_few(text, at, bytes);
+        put_few(to, bytes);
     }
     after
 }
 
-// Puts the bytes that an entry gives at a place; gives the place after them.
-fn put_entry_text(
-    names: &[u8],
-    starts: &[u16; 256],
-    n: usize,
-    mark: u8,
-    e: u16,
-    text: &mut [u8],
-    at: usize,
-) -> usize
-    requires lined { Lined names.now starts.now n }
-    requires e_le_n { e ≤ n }
-    requires e_in_bounds { at + length (entry_text names.now mark e) ≤ length text.old }
-    ensures { Put text.old text.new (entry_text names.now mark e) at result }
+// Puts the bytes that an entry gives at a place; gives the place after them. The mark is 0 before the first entry, as in the definition: an Option
+// would be one more `match` for each entry, and say no more.
+fn put_entry_text(lines: &NameLines, mark: u8, e: u16, text: &mut [u8], at: usize) -> usize
+    requires e_le_n { e ≤ lines.now.n }
+    requires e_in_bounds { at + length (entry_text lines.now.names.now mark e) ≤ length text.old }
+    ensures { Put text.old text.new (entry_text lines.now.names.now mark e) at result }
 {
     if e == 0 {
         if mark == b',' {
@@ -326,7 +282,7 @@ fn put_entry_text(
         }
         return at;
     }
-    let name = name_at(names, starts, n, usize::from(e) - 1);
+    let name = lines.name(usize::from(e) - 1);
     if mark == 0 {
         return put_bytes(text, at, name);
     }
@@ -335,78 +291,57 @@ fn put_entry_text(
 }
 
 // Puts the tree's term at the front of the list.
-fn put_text(names: &[u8], starts: &[u16; 256], n: usize, tree: &[u16], text: &mut [u8])
-    requires lined { Lined names.now starts.now n }
-    requires entries_named { EntriesNamed n tree.now }
-    requires tree_in_bounds { length (entries_text names.now 0 tree.now) ≤ length text.old }
-    ensures { Front text.old text.new (entries_text names.now 0 tree.now) }
+fn put_text(lines: &NameLines, tree: &[u16], text: &mut [u8])
+    requires entries_named { EntriesNamed lines.now.n tree.now }
+    requires tree_in_bounds { length (entries_text lines.now.names.now 0 tree.now) ≤ length text.old }
+    ensures { Front text.old text.new (entries_text lines.now.names.now 0 tree.now) }
 {
     let mut at = 0;
     let mut mark = 0;
     for e in tree {
-        at = put_entry_text(names, starts, n, mark, *e, &mut *text, at);
+        at = put_entry_text(lines, mark, *e, &mut *text, at);
         mark = mark_after(*e);
     }
 }
 
 // Writes the term of a tree whose symbols are all named, where there is room.
-fn write_fitting(
-    names: &[u8],
-    starts: &[u16; 256],
-    n: usize,
-    tree: &[u16],
-    text: &mut [u8],
-) -> Answer
-    requires lined { Lined names.now starts.now n }
-    requires entries_named { EntriesNamed n tree.now }
+fn write_fitting(lines: &NameLines, tree: &[u16], text: &mut [u8]) -> Answer
+    requires entries_named { EntriesNamed lines.now.n tree.now }
     requires well_formed { WellFormed tree.now }
-    ensures { WriteBy write_fits names.now tree.now text.old text.new result }
+    ensures { WriteBy write_fits lines.now.names.now tree.now text.old text.new result }
 {
-    let needed = text_length(names, starts, n, tree);
+    let needed = text_length(lines, tree);
     if text.len() < needed {
         return Err(refuse(Kind::ShortTextList, needed as u64));
     }
-    put_text(names, starts, n, tree, text);
+    put_text(lines, tree, text);
     Ok(needed as u64)
 }
 
 // Writes the term of a list that is a tree.
-fn write_formed(
-    names: &[u8],
-    starts: &[u16; 256],
-    n: usize,
-    tree: &[u16],
-    text: &mut [u8],
-) -> Answer
-    requires lined { Lined names.now starts.now n }
-    requires n_value { n ≡ how_many_names names.now }
-    requires well_formed { WellFormed tree.now × (length tree.now ≤ 4096) }
-    ensures { WriteBy write_formed names.now tree.now text.old text.new result }
+fn write_formed(list: &NamesList, tree: &[u16], text: &mut [u8]) -> Answer
+    requires { WellFormed tree.now × (length tree.now ≤ 4096) }
+    ensures { WriteBy write_formed list.now.index.lines.names.now tree.now text.old text.new result }
 {
-    match first_unnamed(tree, n) {
+    match first_unnamed(tree, list.index.lines.n) {
         Some(place) => Err(refuse(Kind::UnnamedSymbol, place as u64)),
-        None => write_fitting(names, starts, n, tree, text),
+        None => write_fitting(&list.index.lines, tree, text),
     }
 }
 
 // Writes a term by a names list that keeps to the rules.
-fn write_named(names: &[u8], starts: &[u16; 256], n: usize, tree: &[u16], text: &mut [u8]) -> Answer
-    requires lined { Lined names.now starts.now n }
-    requires n_value { n ≡ how_many_names names.now }
-    ensures { WriteBy write_named names.now tree.now text.old text.new result }
+fn write_named(list: &NamesList, tree: &[u16], text: &mut [u8]) -> Answer
+    ensures { WriteBy write_named list.now.index.lines.names.now tree.now text.old text.new result }
 {
     check_tree(tree)?;
-    write_formed(names, starts, n, tree, text)
+    write_formed(list, tree, text)
 }
 
 // Writes a tree as a term: gives the count of bytes, which then stand at the front of the list.
 pub fn write_term(names: &[u8], tree: &[u16], text: &mut [u8]) -> Answer
     ensures { WriteTerm names.now tree.now text.old text.new result }
 {
-    let mut starts = [0u16; 256];
-    let mut heads = [0u16; 512];
-    let mut next = [0u16; 256];
-    let seed = list_seed(names);
-    let n = check_names(names, seed, &mut starts, &mut heads, &mut next)?;
-    write_named(names, &starts, n, tree, text)
+    let mut room = NamesRoom::new();
+    let list = room.check(names)?;
+    write_named(&list, tree, text)
 }

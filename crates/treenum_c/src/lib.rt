@@ -12,6 +12,7 @@ ghost use Rattle.treenum_c.specs.Returned.{Returned, Left};
 use model::Answer;
 
 // Returns 0 and puts the result, or returns the refusal's number and puts its place.
+// (A number for each kind, and a place to put another: the C interface.)
 fn give(answer: Answer, value: &mut u64) -> u32
     ensures { Returned (outcome answer) result value.new }
 {

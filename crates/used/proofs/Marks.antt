@@ -20,7 +20,7 @@ use Rattle.model.proofs.Choice.{or_left, any_true, any_some}
 use Rattle.model.proofs.Counting.{factors_some}
 use Rattle.model.proofs.Used.{among_place, place_among}
 use Rattle.counts.specs.States.{held}
-use Rattle.used.specs.Marked.{is_set, ArgsSome, MarkedToo, row_names, listed_by, AllMarked}
+use Rattle.used.specs.Marked.{is_set, Placed, NoneEmpty, MarkedToo, row_names, listed_by, AllMarked}
 
 -- ---- tests
 
@@ -210,5 +210,6 @@ pub marked_stays : (cs old used : List ℕ) (n : ℕ) (p : ℕ → Bool) → Mar
 marked_stays cs old used n p m s = record { marked = λ a l h. m.each a ∙ or_left (is_set old a) (p a) (s.marked a l h) }
 
 -- a row whose arguments have trees counts more than 0
-pub row_some : (full : Bool) (cs args : List ℕ) → ArgsSome full cs args → full ≡ true → true ≡ ltb 0 (product (map (held cs) args))
-row_some full cs args s e = sym (lt-ltb 0 (product (map (held cs) args)) (factors_some (held cs) args (s.some e)))
+pub row_some : (full : Bool) (cs args : List ℕ) → NoneEmpty full cs → Placed (length cs) args → full ≡ true → true ≡ ltb 0 (product (map (held cs) args))
+row_some full cs args s p e =
+    sym (lt-ltb 0 (product (map (held cs) args)) (factors_some (held cs) args (λ k l. s.some e (get_or args k 0) (p.placed k l))))

@@ -8,7 +8,8 @@ use mathlib.Core.Logic.{◌⊎◌, inl, inr}
 use native.Mathlib.Nat.{pos_of_ne-zero}
 use native.Mathlib.Decide.{dec_le}
 use native.Mathlib.Omega.{arith}
-use lib.ListN.{length, get_or}
+use lib.ListN.{length, get_or, take, get_or-eq_default}
+use lib.Seq.{length-take-le, get_or-take}
 use lib.Dec.{eqb, ltb, leb}
 use borrow.Author.Tests.{eqb-true, lt-ltb, ltb-true}
 use Rattle.model.specs.Choice.{any_below}
@@ -17,14 +18,14 @@ use Rattle.model.specs.Count.{row_counts, count}
 use Rattle.model.specs.Reach.{is_among}
 use Rattle.model.specs.Used.{used_by, state_used, is_used}
 use Rattle.model.proofs.Choice.{is_false, and_true, or_true, or_left, or_right, any_none, any_true, any_some}
+use Rattle.model.proofs.Counting.{count_beyond}
 use Rattle.model.proofs.Used.{among_place, used_marks, marks_unique}
 use Rattle.model.proofs.UsedPass.{used_since, since_listed, since_own, since_next, since_local}
 use Rattle.model.proofs.UsedKept.{used_alike}
 use Rattle.rows.specs.Words.{rows_in, row_no, held_table}
-use Rattle.rows.proofs.Words.{rows_long}
 use Rattle.counts.specs.Chain.{target, InOrder}
 use Rattle.counts.specs.States.{held}
-use Rattle.used.specs.Marked.{is_set, NoneEmpty, RowPlaced, MarkedToo, row_names, listed_by, named_row, named_for, AllMarked, PassedBy, TurnReady, Turned, PassReady, FoundUsed}
+use Rattle.used.specs.Marked.{is_set, RowPlaced, MarkedToo, row_names, listed_by, named_row, named_for, AllMarked, PassedBy, TurnReady, Turned, PassReady, FoundUsed}
 use Rattle.used.proofs.Marks.{same_test, or_none, all_marked_none}
 use Rattle.used.proofs.Turn.{factor_some}
 
@@ -95,6 +96,29 @@ pub record Passing (states : ℕ) (pool accepting words cs begun used : List ℕ
   pub passed : AllMarked cs used n
   pub below : n ≤ m
 
+-- the counts of the states alone will do: what is no state counts 0
+pub of_states : {states : ℕ} {pool accepting words first cs used : List ℕ} → PassReady states pool accepting words first cs used
+    → PassReady states pool accepting words first (take states cs) used
+of_states {states} {pool} {accepting} {words} {cs = cs} g = record {
+  ordered = g.ordered;
+  listed = g.listed;
+  first_room = g.first_room;
+  cs_room = omega (arith, whole);
+  used_room = g.used_room;
+  blank = g.blank;
+  alike = λ a. go a (dec_le states a);
+}
+  where
+    T : Table
+    T = held_table states pool words accepting
+
+    whole : length (take states cs) ≡ states
+    whole = length-take-le states cs g.cs_room
+
+    go : (a : ℕ) → Dec (states ≤ a) → ltb 0 (held (take states cs) a) ≡ ltb 0 (count T a)
+    go a (yes l) = ap (ltb 0) (get_or-eq_default (take states cs) 0 (omega (arith, whole)) ∙ sym (count_beyond T a l))
+    go a (no h) = ap (ltb 0) (get_or-take states cs a 0 (omega arith)) ∙ g.alike a
+
 module _ {states : ℕ} {pool accepting words first cs used₀ : List ℕ} (g : PassReady states pool accepting words first cs used₀) where
   abbrev T : Table
   T = held_table states pool words accepting
@@ -127,12 +151,9 @@ module _ {states : ℕ} {pool accepting words first cs used₀ : List ℕ} (g : 
     pub mark_here : n < m → m - 1 < length used
     mark_here l = omega (arith, x.low, x.long, b.long, g.used_room)
 
-    pub turn_ready : {full : Bool} → NoneEmpty full states cs → n < m → TurnReady full pool words first cs used n (m - 1)
-    turn_ready w l = record {
-      whole = record { some = λ e a i. w.some e a (omega (arith, x.low)) };
-      rows_held = g.rows_held;
-      chained = g.chained;
-      lower = λ r i e. record { placed = λ k j. omega (arith, g.ordered.lower r (rw (rows_long pool words) i) k j, e) };
+    pub turn_ready : n < m → TurnReady rows first cs used n (m - 1)
+    turn_ready l = record {
+      lower = λ r i e. record { placed = λ k j. omega (arith, g.ordered.lower r i k j, e) };
       state = omega (arith, x.low, g.first_room);
       passed = record { passed = x.passed; low = omega arith; counted = omega (arith, x.low, g.cs_room); room = omega (arith, x.low, x.long, b.long, g.used_room) };
     }

@@ -57,9 +57,7 @@ module _ {states : ℕ} {pool accepting words first cs ms used₀ ss : List ℕ}
 
   pub pass_ready : PassReady states pool accepting words first cs used₀
   pass_ready = record {
-    rows_held = g.rows_held;
     ordered = g.ordered;
-    chained = g.chained;
     listed = g.listed;
     first_room = g.room.first_room;
     cs_room = g.room.cs_room;
@@ -116,11 +114,9 @@ module _ {states : ℕ} {pool accepting words first cs ms used₀ ss : List ℕ}
     pub fault_ready : (from : ℕ) → FaultFrom states ms from → FaultReady states ms used from
     fault_ready from f = record { room = g.room.ms_room; used_room = omega (arith, g.room.used_room, u.long); before = f }
 
-    pub clear_ready : ClearReady states words first used cs ss
+    pub clear_ready : ClearReady states pool words first used cs ss
     clear_ready = record {
-      pool = pool;
       ordered = g.ordered;
-      chained = g.chained;
       first_room = g.room.first_room;
       used_room = omega (arith, g.room.used_room, u.long);
       cs_room = g.room.cs_room;

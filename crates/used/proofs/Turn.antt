@@ -15,12 +15,11 @@ use Rattle.model.specs.Count.{product}
 use Rattle.model.specs.Reach.{is_among}
 use Rattle.model.proofs.Choice.{and_true, or_true, or_left, or_right, any_true, any_some}
 use Rattle.model.proofs.Used.{among_place}
-use Rattle.rows.specs.Words.{after_in, args_in, rows_in, row_no, Inside}
-use Rattle.rows.proofs.Words.{rows_long}
-use Rattle.counts.specs.Chain.{target, leads, TargetLink}
+use Rattle.rows.specs.Words.{after_in, args_in, rows_in, row_no, afters, Inside, Held}
+use Rattle.counts.specs.Chain.{target, leads, TargetLink, Chained}
 use Rattle.counts.specs.States.{held}
 use Rattle.counts.proofs.Chain.{leads_row, leads_end}
-use Rattle.used.specs.Marked.{is_set, Placed, ArgsSome, RowPlaced, MarkedToo, row_names, named_row, named_for, AllMarked, PassedBy, TurnReady, Turned}
+use Rattle.used.specs.Marked.{is_set, Placed, RowPlaced, MarkedToo, row_names, named_row, named_for, AllMarked, PassedBy, TurnReady, Turned}
 use Rattle.used.proofs.Marks.{same_test, or_none, or_assoc, marked_stays}
 use Rattle.used.proofs.Walk.{AtRow, at_link, leads_within, row_here, args_here, link_next, link_further}
 
@@ -149,45 +148,40 @@ module _ (rows : List Row) (cs : List ℕ) (q : ℕ) where
 
 -- ---- as the code has it
 
-module _ {full : Bool} {pool words first cs old : List ℕ} {low q : ℕ} (g : TurnReady full pool words first cs old low q) where
+module _ {pool words first cs old : List ℕ} {low q : ℕ} (held_rows : Held pool words (length words))
+    (chained : Chained (rows_in pool words) first (afters words)) (g : TurnReady (rows_in pool words) first cs old low q) where
   abbrev rows : List Row
   rows = rows_in pool words
 
-  lower : (r : ℕ) → r < length rows → target rows r ≡ q → Placed q (row_no rows r).args
-  lower r l e = g.lower r (rw (rows_long pool words) at l) e
-
   pub turn_begins : (p : ℕ) → p ≡ get_or first q 0 → Taking rows cs q old old low p
-  turn_begins p e = taking_begins rows cs q old low p g.passed.passed g.passed.low (rw e (g.chained.firsts q g.state))
+  turn_begins p e = taking_begins rows cs q old low p g.passed.passed g.passed.low (rw e (chained.firsts q g.state))
 
   module _ {used : List ℕ} {n p : ℕ} (x : Taking rows cs q old used n p) where
     pub turn_stops : q ≤ n → Turned rows cs q old used n
-    turn_stops le = turn_enough rows cs q old used n p lower x le
+    turn_stops le = turn_enough rows cs q old used n p g.lower x le
 
     module _ (pos : 0 < p) where
       pub word_here : p - 1 < length words
-      word_here = row_here pool words g.chained x.at_row pos
+      word_here = row_here pool words chained x.at_row pos
 
       pub inside_here : Inside pool (get_or words (p - 1) 0)
-      inside_here = g.rows_held.inside (p - 1) word_here
+      inside_here = held_rows.inside (p - 1) word_here
 
       pub turn_further : (p' : ℕ) → p' ≡ after_in (get_or words (p - 1) 0) → length rows - leads p' (length rows) < length rows - leads p (length rows)
-      turn_further = link_further pool words g.chained x.at_row pos
+      turn_further = link_further pool words chained x.at_row pos
 
       module _ (args : List ℕ) (is : args ≡ args_in pool (get_or words (p - 1) 0)) where
         same : args ≡ (row_no rows (p - 1)).args
-        same = is ∙ sym (args_here pool words g.chained x.at_row pos)
+        same = is ∙ sym (args_here pool words chained x.at_row pos)
 
         placed : Placed q args
-        placed = rw same (lower (p - 1) (x.at_row.inside pos) (x.at_row.mine pos))
+        placed = rw same (g.lower (p - 1) (x.at_row.inside pos) (x.at_row.mine pos))
 
-        pub row_placed : RowPlaced args cs used × ArgsSome full cs args
-        row_placed = (
-          record {
-            counted = record { placed = λ k l. omega (arith, placed.placed k l, g.passed.counted) };
-            marked = record { placed = λ k l. omega (arith, placed.placed k l, g.passed.room, x.marked.long) };
-          },
-          record { some = λ e k l. g.whole.some e (get_or args k 0) (placed.placed k l) },
-        )
+        pub row_placed : RowPlaced args cs used
+        row_placed = record {
+          counted = record { placed = λ k l. omega (arith, placed.placed k l, g.passed.counted) };
+          marked = record { placed = λ k l. omega (arith, placed.placed k l, g.passed.room, x.marked.long) };
+        }
 
         module _ (used' : List ℕ) (m : MarkedToo (row_names cs args) used used') where
           pub look_ready : PassedBy cs used' n q
@@ -199,4 +193,4 @@ module _ {full : Bool} {pool words first cs old : List ℕ} {low q : ℕ} (g : T
           }
 
           pub turn_goes : (n' p' : ℕ) → AllMarked cs used' n' × (n' ≤ q) → p' ≡ after_in (get_or words (p - 1) 0) → Taking rows cs q old used' n' p'
-          turn_goes n' p' s e = taking_goes rows cs q old used used' n n' p p' x pos (rw same at m) s.0 s.1 (link_next pool words g.chained x.at_row pos p' e)
+          turn_goes n' p' s e = taking_goes rows cs q old used used' n n' p p' x pos (rw same at m) s.0 s.1 (link_next pool words chained x.at_row pos p' e)

@@ -5,8 +5,8 @@ use Rattle.model.specs.Table.{Row}
 use Rattle.model.specs.Count.{product, count}
 use Rattle.model.specs.Reach.{is_among}
 use Rattle.model.specs.Used.{is_used}
-use Rattle.rows.specs.Words.{row_no, rows_in, afters, Held, held_table}
-use Rattle.counts.specs.Chain.{target, InOrder, Chained}
+use Rattle.rows.specs.Words.{row_no, rows_in, held_table}
+use Rattle.counts.specs.Chain.{target, InOrder}
 use Rattle.counts.specs.States.{held}
 
 -- the state is marked
@@ -23,12 +23,8 @@ pub record RowPlaced (xs cs used : List ℕ) : Type 0 where
   pub marked : Placed (length used) xs
 
 -- where this is so, every state has trees
-pub record NoneEmpty (full : Bool) (states : ℕ) (cs : List ℕ) : Type 0 where
-  pub some : full ≡ true → (a : ℕ) → a < states → 0 < held cs a
-
--- where this is so, every argument has trees
-pub record ArgsSome (full : Bool) (cs args : List ℕ) : Type 0 where
-  pub some : full ≡ true → (k : ℕ) → k < length args → 0 < held cs (get_or args k 0)
+pub record NoneEmpty (full : Bool) (cs : List ℕ) : Type 0 where
+  pub some : full ≡ true → (a : ℕ) → a < length cs → 0 < held cs a
 
 -- beside what was marked, the states with a property are marked
 pub record MarkedToo (p : ℕ → Bool) (old new : List ℕ) : Type 0 where
@@ -61,12 +57,9 @@ pub record PassedBy (cs used : List ℕ) (n m : ℕ) : Type 0 where
   pub counted : m ≤ length cs
   pub room : m ≤ length used
 
--- what the rows of one state are taken from: rows that are held and chained by target, with lower arguments
-pub record TurnReady (full : Bool) (pool words first cs used : List ℕ) (n q : ℕ) : Type 0 where
-  pub whole : NoneEmpty full q cs
-  pub rows_held : Held pool words (length words)
-  pub chained : Chained (rows_in pool words) first (afters words)
-  pub lower : (r : ℕ) → r < length words → target (rows_in pool words) r ≡ q → Placed q (row_no (rows_in pool words) r).args
+-- what the rows of one state are taken from, beside the chains: they have lower arguments
+pub record TurnReady (rows : List Row) (first cs used : List ℕ) (n q : ℕ) : Type 0 where
+  pub lower : (r : ℕ) → r < length rows → target rows r ≡ q → Placed q (row_no rows r).args
   pub state : q < length first
   pub passed : PassedBy cs used n q
 
@@ -76,12 +69,10 @@ pub record Turned (rows : List Row) (cs : List ℕ) (q : ℕ) (old new : List �
   pub passed : AllMarked cs new n
   pub low : n ≤ q
 
--- what the used states are found from: rows that are held, in order and chained by target, listed states, no mark yet, and counts that are
--- above 0 where the true ones are
+-- what the used states are found from, beside the chains: rows in order, listed states, no mark yet, and counts that are above 0 where the
+-- true ones are
 pub record PassReady (states : ℕ) (pool accepting words first cs used : List ℕ) : Type 0 where
-  pub rows_held : Held pool words (length words)
   pub ordered : InOrder states (rows_in pool words)
-  pub chained : Chained (rows_in pool words) first (afters words)
   pub listed : Placed states accepting
   pub first_room : states ≤ length first
   pub cs_room : states ≤ length cs

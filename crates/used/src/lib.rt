@@ -1,67 +1,46 @@
 // Which states are used, and the limits that used states are held to.
 #![tactic(auto)]
 
-ghost use Rattle.std.specs.Prelude.{◌≡◌, ◌≤◌, true, map, length, ltb};
+ghost use Rattle.std.specs.Prelude.{◌≡◌, ◌<◌, ◌≤◌, true, map, length, ltb};
+ghost use Rattle.std.proofs.Props.{props};
 ghost use Rattle.model.specs.Count.{product};
 ghost use Rattle.model.specs.Reach.{is_among};
 ghost use Rattle.rows.specs.Words.{rows_in};
 ghost use Rattle.counts.specs.States.{held};
-ghost use Rattle.used.specs.Marked.{Placed, NoneEmpty, ArgsSome, MarkedToo, RowPlaced, row_names, listed_by, AllMarked, PassedBy, TurnReady, Turned, PassReady, FoundUsed};
+ghost use Rattle.used.specs.Marked.{Placed, NoneEmpty, MarkedToo, RowPlaced, row_names, listed_by, AllMarked, PassedBy, TurnReady, Turned, PassReady, FoundUsed};
 ghost use Rattle.used.specs.Limits.{BeyondFrom, FaultFrom, FaultReady, FirstUsed};
-ghost use Rattle.used.specs.Settled.{RowsChained, RowsCleared, ClearReady, Cleared, SettleReady, Settled};
+ghost use Rattle.used.specs.Settled.{RowsCleared, ClearReady, Cleared, SettleReady, Settled};
 
+use counts::ByTarget;
 use model::{Kind, Refusal, refuse};
+use rows::Rows;
 
 // The most entries that a state's longest tree may have.
 const LENGTH_LIMIT: u64 = 4096;
 
-// Whether a row with these arguments counts more than 0.
-#[tactic(auto, using(crate::proofs::Marks::pos_goes, crate::proofs::Marks::pos_none, crate::proofs::Marks::pos_ends))]
-fn has_trees(args: &[u16], counts: &[u64]) -> bool
-    requires { Placed (length counts.now) args.now }
-    ensures { result ≡ ltb 0 (product (map (held counts.now) args.now)) }
-{
-    for a in args {
-        if counts[usize::from(*a)] == 0 {
-            return false;
-        }
-    }
-    true
+// The counts of the states, and whether every state has trees.
+#[derive(Clone, Copy)]
+struct Counts<'a> {
+    counts: &'a [u64],
+    full: bool,
+    ghost some: { NoneEmpty full counts.now } by { Prim.hlevel props },
 }
 
 // Whether every state has trees.
-fn none_empty(states: usize, counts: &[u64]) -> bool
-    requires { states ≤ length counts.now }
-    ensures { NoneEmpty result states counts.now }
+fn none_empty(counts: &[u64]) -> bool
+    ensures { NoneEmpty result counts.now }
 {
-    counts[..states].iter().all(|c| *c != 0)
-}
-
-// Whether a row with these arguments counts more than 0; where no state is empty it does.
-fn row_counts(full: bool, args: &[u16], counts: &[u64]) -> bool
-    requires { Placed (length counts.now) args.now × ArgsSome full counts.now args.now }
-    ensures { result ≡ ltb 0 (product (map (held counts.now) args.now)) }
-{
-    full || has_trees(args, counts)
+    counts.iter().all(|c| *c != 0)
 }
 
 // Marks the states of a list.
+// (Beside mark_listed: one function for both would take the test as a closure, longer than the loop that it saves.)
 fn mark_args(args: &[u16], used: &mut [u8])
     requires { Placed (length used.old) args.now }
     ensures { MarkedToo (λ q. is_among q args.now) used.old used.new }
 {
     for a in args {
         used[usize::from(*a)] = 1;
-    }
-}
-
-// Marks the arguments of a row, if it counts more than 0.
-fn mark_row(full: bool, args: &[u16], counts: &[u64], used: &mut [u8])
-    requires { RowPlaced args.now counts.now used.old × ArgsSome full counts.now args.now }
-    ensures { MarkedToo (row_names counts.now args.now) used.old used.new }
-{
-    if row_counts(full, args, counts) {
-        mark_args(args, used);
     }
 }
 
@@ -92,59 +71,85 @@ fn pass_marked(counts: &[u64], used: &[u8], low: usize, m: usize) -> usize
     m
 }
 
-// Marks the arguments of the rows of state q that count more than 0, up to the row after which every state below q that has trees is
-// marked.
-fn mark_rows(
-    full: bool,
-    pool: &[u16],
-    words: &[u64],
-    first: &[u16],
-    counts: &[u64],
-    used: &mut [u8],
-    low: usize,
-    q: usize,
-) -> usize
-    requires { TurnReady full pool.now words.now first.now counts.now used.old low q }
-    ensures { Turned (rows_in pool.now words.now) counts.now q used.old used.new result }
-{
-    let mut n = low;
-    let mut p = usize::from(first[q]);
-    while 0 < p {
-        if q <= n {
-            return n;
+impl Counts<'_> {
+    // Whether a row with these arguments counts more than 0; where every state has trees it does.
+    #[tactic(auto, using(crate::proofs::Marks::pos_goes, crate::proofs::Marks::pos_none, crate::proofs::Marks::pos_ends, crate::proofs::Marks::row_some))]
+    fn row_counts(&self, args: &[u16]) -> bool
+        requires { Placed (length self.now.counts.now) args.now }
+        ensures { result ≡ ltb 0 (product (map (held self.now.counts.now) args.now)) }
+    {
+        if self.full {
+            return true;
         }
-        let word = words[p - 1];
-        let args = rows::args_in(pool, word);
-        mark_row(full, args, counts, used);
-        n = pass_marked(counts, used, n, q);
-        p = rows::after_in(word);
+        for a in args {
+            if self.counts[usize::from(*a)] == 0 {
+                return false;
+            }
+        }
+        true
     }
-    n
+
+    // Marks the arguments of a row, if it counts more than 0.
+    fn mark_row(&self, args: &[u16], used: &mut [u8])
+        requires { RowPlaced args.now self.now.counts.now used.old }
+        ensures { MarkedToo (row_names self.now.counts.now args.now) used.old used.new }
+    {
+        if self.row_counts(args) {
+            mark_args(args, used);
+        }
+    }
+
+    // Marks the arguments of the rows of state q that count more than 0, up to the row after which every state below q that has trees is
+    // marked.
+    fn mark_rows(&self, by_target: &ByTarget, used: &mut [u8], low: usize, q: usize) -> usize
+        requires { TurnReady (rows_in by_target.now.rows.pool.now by_target.now.rows.words.now) by_target.now.first.now
+            self.now.counts.now used.old low q }
+        ensures { Turned (rows_in by_target.now.rows.pool.now by_target.now.rows.words.now) self.now.counts.now q
+            used.old used.new result }
+    {
+        let Rows { pool, words } = by_target.rows;
+        let mut n = low;
+        let mut p = usize::from(by_target.first[q]);
+        while 0 < p {
+            if q <= n {
+                return n;
+            }
+            let word = words[p - 1];
+            let args = rows::args_in(pool, word);
+            self.mark_row(args, used);
+            n = pass_marked(self.counts, used, n, q);
+            p = rows::after_in(word);
+        }
+        n
+    }
 }
 
 // Marks the used states: the listed ones that have trees, and then, from the highest state down, the arguments of the rows of used
 // states.
 pub fn find_used(
     states: usize,
-    pool: &[u16],
     accepting: &[u16],
-    words: &[u64],
-    first: &[u16],
+    by_target: &ByTarget,
     counts: &[u64],
     used: &mut [u8],
 )
-    requires { PassReady states pool.now accepting.now words.now first.now counts.now used.old }
-    ensures { FoundUsed states pool.now accepting.now words.now used.old used.new }
+    requires { PassReady states by_target.now.rows.pool.now accepting.now by_target.now.rows.words.now by_target.now.first.now
+        counts.now used.old }
+    ensures { FoundUsed states by_target.now.rows.pool.now accepting.now by_target.now.rows.words.now used.old used.new }
 {
-    let full = none_empty(states, counts);
-    mark_listed(accepting, counts, used);
-    let mut n = pass_marked(counts, used, 0, states);
+    let each = &counts[..states];
+    let known = Counts {
+        counts: each,
+        full: none_empty(each),
+    };
+    mark_listed(accepting, each, used);
+    let mut n = pass_marked(each, used, 0, states);
     for m in (0..states).rev() {
         if m < n {
             break;
         }
         if used[m] != 0 {
-            n = mark_rows(full, pool, words, first, counts, used, n, m);
+            n = known.mark_rows(by_target, used, n, m);
         }
     }
 }
@@ -191,11 +196,12 @@ pub fn first_fault(states: usize, marks: &[u64], used: &[u8], from: usize) -> Op
 }
 
 // Sets the sums of the rows of state q to 0.
-fn clear_rows(words: &[u64], first: &[u16], sums: &mut [u64], q: usize)
-    requires { RowsChained words.now first.now sums.old q }
-    ensures { RowsCleared words.now q sums.old sums.new }
+fn clear_rows(by_target: &ByTarget, sums: &mut [u64], q: usize)
+    requires { (q < length by_target.now.first.now) × (length by_target.now.rows.words.now ≤ length sums.old) }
+    ensures { RowsCleared by_target.now.rows.words.now q sums.old sums.new }
 {
-    let mut p = usize::from(first[q]);
+    let words = by_target.rows.words;
+    let mut p = usize::from(by_target.first[q]);
     while 0 < p {
         sums[p - 1] = 0;
         p = rows::after_in(words[p - 1]);
@@ -205,19 +211,19 @@ fn clear_rows(words: &[u64], first: &[u16], sums: &mut [u64], q: usize)
 // Sets the counts of unused states, and the sums of their rows, to 0.
 pub fn clear_unused(
     states: usize,
-    words: &[u64],
-    first: &[u16],
+    by_target: &ByTarget,
     used: &[u8],
     counts: &mut [u64],
     sums: &mut [u64],
 )
-    requires { ClearReady states words.now first.now used.now counts.old sums.old }
-    ensures { Cleared states words.now used.now counts.old counts.new sums.old sums.new }
+    requires { ClearReady states by_target.now.rows.pool.now by_target.now.rows.words.now by_target.now.first.now used.now
+        counts.old sums.old }
+    ensures { Cleared states by_target.now.rows.words.now used.now counts.old counts.new sums.old sums.new }
 {
     for q in 0..states {
         if used[q] == 0 {
             counts[q] = 0;
-            clear_rows(words, first, sums, q);
+            clear_rows(by_target, sums, q);
         }
     }
 }
@@ -226,26 +232,24 @@ pub fn clear_unused(
 // unused states, and the sums of their rows, become 0.
 fn settle_used(
     states: usize,
-    pool: &[u16],
     accepting: &[u16],
-    words: &[u64],
-    first: &[u16],
+    by_target: &ByTarget,
     counts: &mut [u64],
     marks: &[u64],
     used: &mut [u8],
     sums: &mut [u64],
     from: usize,
 ) -> Result<(), Refusal>
-    requires { SettleReady states pool.now accepting.now words.now first.now counts.old marks.now used.old sums.old
-        × FaultFrom states marks.now from }
-    ensures { Settled true states pool.now accepting.now words.now counts.old
+    requires { SettleReady states by_target.now.rows.pool.now accepting.now by_target.now.rows.words.now by_target.now.first.now
+        counts.old marks.now used.old sums.old × FaultFrom states marks.now from }
+    ensures { Settled true states by_target.now.rows.pool.now accepting.now by_target.now.rows.words.now counts.old
         counts.new sums.old sums.new result }
 {
-    find_used(states, pool, accepting, words, first, counts, used);
+    find_used(states, accepting, by_target, counts, used);
     if let Some((q, kind)) = first_fault(states, marks, used, from) {
         return Err(refuse(kind, q as u64));
     }
-    clear_unused(states, words, first, used, counts, sums);
+    clear_unused(states, by_target, used, counts, sums);
     Ok(())
 }
 
@@ -254,23 +258,22 @@ fn settle_used(
 pub fn settle(
     prepare: bool,
     states: usize,
-    pool: &[u16],
     accepting: &[u16],
-    words: &[u64],
-    first: &[u16],
+    by_target: &ByTarget,
     counts: &mut [u64],
     marks: &[u64],
     used: &mut [u8],
     sums: &mut [u64],
 ) -> Result<(), Refusal>
-    requires { SettleReady states pool.now accepting.now words.now first.now counts.old marks.now used.old sums.old }
-    ensures { Settled prepare states pool.now accepting.now words.now counts.old
+    requires { SettleReady states by_target.now.rows.pool.now accepting.now by_target.now.rows.words.now by_target.now.first.now
+        counts.old marks.now used.old sums.old }
+    ensures { Settled prepare states by_target.now.rows.pool.now accepting.now by_target.now.rows.words.now counts.old
         counts.new sums.old sums.new result }
 {
     let from = first_place(states, marks);
     if prepare || from < states {
         settle_used(
-            states, pool, accepting, words, first, counts, marks, used, sums, from,
+            states, accepting, by_target, counts, marks, used, sums, from,
         )?;
     }
     Ok(())

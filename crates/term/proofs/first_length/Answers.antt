@@ -9,6 +9,6 @@ pub returns-then-e-eq0 : goal.returns-then-e-eq0
 returns-then-e-eq0 c = (sym (ap length (letter_bar _ 0 _ c.if-e-eq0.true (λ e. omega arith))), omega arith)
 
 pub returns : goal.returns
-returns c = let name : c.name_at.result.now ≡ name_of c.args.names.now c.args.e = c.name_at.ensures ∙ name_line _ _ _ c.from.ensures in
+returns c = let name : c.name.result.now ≡ name_of c.args.lines.now.names.now c.args.e = c.name.ensures ∙ name_line _ _ _ c.from.ensures in
     let ne = c.if-e-eq0.false in
-    (ap length (name ∙ sym (letter_name _ 0 _ ne refl)), omega (arith, ap length (name), name_short c.requires.lined _ ne c.requires.e_le_n))
+    (ap length (name ∙ sym (letter_name _ 0 _ ne refl)), omega (arith, ap length (name), name_short c.args.lines.now.lined _ ne c.requires))

@@ -5,7 +5,7 @@ use Rattle.term.proofs.Outcomes.{cleared, gave_refused, told_refused, told_gave}
 use Rattle.term.proofs.read_named.Goals as goal
 
 pub read_text-requires : goal.read_text-requires
-read_text-requires c = record { names_indexed = c.requires.names_indexed; n_value = c.requires.n_value; text_len_bound = (omega arith, cleared) }
+read_text-requires c = (omega arith, cleared)
 
 pub returns-in_err-needed : goal.returns-in_err-needed
 returns-in_err-needed c =

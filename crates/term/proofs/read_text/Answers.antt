@@ -11,39 +11,42 @@ use Rattle.term.proofs.Going.{go_first, go_unlisted, name_there, line_below, go_
 use Rattle.term.proofs.read_text.Goals as goal
 
 pub loop-k-init : goal.loop-k-init
-loop-k-init c = go_first _ _ _ c.requires.text_len_bound.0 c.requires.text_len_bound.1
+loop-k-init c = go_first _ _ _ c.requires.0 c.requires.1
 
-pub find_name-requires : goal.find_name-requires
-find_name-requires c = let r = c.stretch_at-stretch.ensures in
-    let text = c.args.text.now in
-    let i = c.loop-k.i in record { sought = record { seed = c.args.seed; indexed = c.requires.names_indexed; hashed = r.hashed ∙ ap (hash_of c.args.seed) (sym (part_stretch text i _ r.ends)); below = r.below }; name_value = ap all_inner (part_stretch text i _ r.ends) ∙ stretch_inner (drop i text) }
+pub find-requires-clause-hashed : goal.find-requires-clause-hashed
+find-requires-clause-hashed c =
+    let r = c.stretch_at-stretch.ensures in
+    (r.hashed ∙ ap (hash_of c.args.list.now.index.seed) (sym (part_stretch c.args.text.now c.loop-k.i _ r.ends)), r.below)
+
+pub find-requires-clause-name_value : goal.find-requires-clause-name_value
+find-requires-clause-name_value c = ap all_inner (part_stretch c.args.text.now c.loop-k.i _ c.stretch_at-stretch.ensures.ends) ∙ stretch_inner (drop c.loop-k.i c.args.text.now)
 
 pub returns-in_default : goal.returns-in_default
-returns-in_default c = go_unlisted c.loop-k.invariant _ _ c.requires.n_value c.stretch_at-stretch.ensures.ends (sym c.find_name.ensures ∙ c.in_default.is) c.unlisted.ensures
+returns-in_default c = go_unlisted c.loop-k.invariant _ _ c.args.list.now.whole c.stretch_at-stretch.ensures.ends (sym c.find.ensures ∙ c.in_default.is) c.unlisted.ensures
 
 pub overflow_add-k : goal.overflow_add-k
 overflow_add-k c =
-    omega (arith, c.requires.names_indexed.lined.few, line_below (name_there c.loop-k.invariant c.requires.names_indexed c.requires.n_value c.stretch_at-stretch.ensures (sym c.find_name.ensures ∙ c.in-Some.is)))
+    omega (arith, c.args.list.now.index.indexed.lined.few, line_below (name_there c.loop-k.invariant c.args.list.now.index.indexed c.args.list.now.whole c.stretch_at-stretch.ensures (sym c.find.ensures ∙ c.in-Some.is)))
 
 pub overflow_cast-k : goal.overflow_cast-k
 overflow_cast-k c =
-    omega (arith, c.requires.names_indexed.lined.few, line_below (name_there c.loop-k.invariant c.requires.names_indexed c.requires.n_value c.stretch_at-stretch.ensures (sym c.find_name.ensures ∙ c.in-Some.is)))
+    omega (arith, c.args.list.now.index.indexed.lined.few, line_below (name_there c.loop-k.invariant c.args.list.now.index.indexed c.args.list.now.whole c.stretch_at-stretch.ensures (sym c.find.ensures ∙ c.in-Some.is)))
 
 pub after_name-requires : goal.after_name-requires
 after_name-requires c =
-    let x = (name_there c.loop-k.invariant c.requires.names_indexed c.requires.n_value c.stretch_at-stretch.ensures (sym c.find_name.ensures ∙ c.in-Some.is)).read in
+    let x = (name_there c.loop-k.invariant c.args.list.now.index.indexed c.args.list.now.whole c.stretch_at-stretch.ensures (sym c.find.ensures ∙ c.in-Some.is)).read in
     (x.within, end_byte _ _ _ x.ends, omega (arith, x.going.shallow, x.going.within, x.going.short))
 
 pub returns-in_err-bars : goal.returns-in_err-bars
 returns-in_err-bars c =
     let p = err_from_is_err_and c.from_residual.result c.from_residual.ensures.1 in
-    rw (p.1, p.2) (go_breaks (name_there c.loop-k.invariant c.requires.names_indexed c.requires.n_value c.stretch_at-stretch.ensures (sym c.find_name.ensures ∙ c.in-Some.is)) _ (c.after_name.ensures.breaks _ c.in_err-bars.was))
+    rw (p.1, p.2) (go_breaks (name_there c.loop-k.invariant c.args.list.now.index.indexed c.args.list.now.whole c.stretch_at-stretch.ensures (sym c.find.ensures ∙ c.in-Some.is)) _ (c.after_name.ensures.breaks _ c.in_err-bars.was))
 
 pub returns-in-Ends : goal.returns-in-Ends
 returns-in-Ends c =
     let z = c.after_name.ensures.ends _ (c.in_ok-bars.was ∙ ap Ok c.in-Ends.is) in
-    go_taken (name_there c.loop-k.invariant c.requires.names_indexed c.requires.n_value c.stretch_at-stretch.ensures (sym c.find_name.ensures ∙ c.in-Some.is)) _ c.put_symbol.ensures _ z.0 z.1
+    go_taken (name_there c.loop-k.invariant c.args.list.now.index.indexed c.args.list.now.whole c.stretch_at-stretch.ensures (sym c.find.ensures ∙ c.in-Some.is)) _ c.put_symbol.ensures _ z.0 z.1
 
 pub loop-k-preserved : goal.loop-k-preserved
 loop-k-preserved c =
-    go_name (name_there c.loop-k.invariant c.requires.names_indexed c.requires.n_value c.stretch_at-stretch.ensures (sym c.find_name.ensures ∙ c.in-Some.is)) _ c.put_symbol.ensures _ _ _ (c.after_name.ensures.name _ _ _ (c.in_ok-bars.was ∙ ap Ok c.in-Name.is))
+    go_name (name_there c.loop-k.invariant c.args.list.now.index.indexed c.args.list.now.whole c.stretch_at-stretch.ensures (sym c.find.ensures ∙ c.in-Some.is)) _ c.put_symbol.ensures _ _ _ (c.after_name.ensures.name _ _ _ (c.in_ok-bars.was ∙ ap Ok c.in-Name.is))

@@ -7,7 +7,7 @@ use Rattle.term.proofs.EntryText.{sum_first, sum_empty, sum_next, sum_last}
 use Rattle.term.proofs.text_length.Goals as goal
 
 pub returns-then-is_empty : goal.returns-then-is_empty
-returns-then-is_empty c = sum_empty c.args.names.now c.args.tree.now (eqb-true _ 0 (sym c.is_empty.ensures ∙ c.if-is_empty.true))
+returns-then-is_empty c = sum_empty c.args.lines.now.names.now c.args.tree.now (eqb-true _ 0 (sym c.is_empty.ensures ∙ c.if-is_empty.true))
 
 pub loop-i-init : goal.loop-i-init
 loop-i-init c = sum_first _ _ (pos_of_ne-zero (eqb-false _ 0 (sym c.is_empty.ensures ∙ c.if-is_empty.false))) _ c.first_length-sum.ensures.0 c.first_length-sum.ensures.1

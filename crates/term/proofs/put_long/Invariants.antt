@@ -1,6 +1,0 @@
-use Rattle.std.proofs.Common.{◌*◌}
-use Rattle.term.specs.Written.{Copied}
-use Rattle.term.proofs.put_long.Given as goal
-
-abbrev pub invariant-loop-k : goal.invariant-loop-k
-invariant-loop-k l = Copied (8 * l.k) l.initial.text l.text l.at l.bytes
