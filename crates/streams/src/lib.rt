@@ -129,7 +129,11 @@ impl Display for Reason {
         let _ = write!(room, "{}", self.0);
         let n = 256usize.saturating_sub(room.len());
         let words = from_utf8(&text[..n]).unwrap_or("");
-        f.write_str(words.rsplit_once(" (os error ").map_or(words, |(before, _)| before))
+        f.write_str(
+            words
+                .rsplit_once(" (os error ")
+                .map_or(words, |(before, _)| before),
+        )
     }
 }
 
