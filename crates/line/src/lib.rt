@@ -1,13 +1,13 @@
 // Lines: what is printed for the program's input, line by line, with any table and names list.
 #![tactic(auto)]
 
-ghost use Rattle.std.specs.Prelude.{◌≡◌, List, [], ◌∷◌, ◌++◌, ℕ, ◌+◌, ◌<◌, ◌≤◌, length, ltb, if◌then◌else◌};
+ghost use Rattle.std.specs.Prelude.{◌≡◌, true, List, [], ◌∷◌, ◌++◌, ℕ, ◌+◌, ◌<◌, ◌≤◌, length, ltb, if◌then◌else◌};
 ghost use Rattle.model.specs.Answers.{refused_by};
 ghost use Rattle.model.specs.Number.{number_outcome};
 ghost use Rattle.model.specs.TermOperations.{bytes_of, write_term_outcome};
 ghost use Rattle.term.specs.Written.{Put};
 ghost use Rattle.line.specs.Lines.{decimal, printed, answer_number, answer_term, answer_to, output_for};
-ghost use Rattle.line.specs.Held.{with_digit, longest_line, Holding, Begins, part};
+ghost use Rattle.line.specs.Held.{no_end, with_digit, with_digits, longest_line, Holding, Begins, part};
 
 use model::{Answer, Kind, Refusal, refuse};
 use term::put_bytes;
@@ -42,17 +42,24 @@ pub struct Fed {
 }
 
 // The number that digits make, with one byte more; none where that is no digit.
-fn add_digit(number: &mut Option<u64>, b: u8)
-    ensures { number.new ≡ with_digit number.old b }
+fn with_digit(number: Option<u64>, b: u8) -> Option<u64>
+    ensures { result ≡ with_digit number b }
 {
-    let Some(n) = *number else {
-        return;
-    };
+    let n = number?;
     if !b.is_ascii_digit() {
-        *number = None;
-        return;
+        return None;
     }
-    *number = Some(n.saturating_mul(10).saturating_add(u64::from(b - b'0')));
+    Some(n.saturating_mul(10).saturating_add(u64::from(b - b'0')))
+}
+
+// The same with more bytes, one after another.
+fn with_digits(mut number: Option<u64>, bytes: &[u8]) -> Option<u64>
+    ensures { result ≡ with_digits number bytes.now }
+{
+    for b in bytes {
+        number = with_digit(number, *b);
+    }
+    number
 }
 
 impl Line {
@@ -77,19 +84,16 @@ impl Line {
         self.number = Some(0);
     }
 
-    // Adds a byte that ends no line; `text` keeps the first 4,096.
-    fn feed(&mut self, b: u8)
-        requires { b ≡ 10 → ⊥ }
-        ensures { (held : List ℕ) → Holds held self.old → Holds (held ++ b ∷ []) self.new }
+    // Adds bytes that end no line; `text` keeps the first 4,096.
+    fn feed(&mut self, bytes: &[u8])
+        requires { no_end bytes.now ≡ true }
+        ensures { (held : List ℕ) → Holds held self.old → Holds (held ++ bytes.now) self.new }
     {
-        let len = self.len;
-        add_digit(&mut self.number, b);
-        if 4096 <= len {
-            self.len = 4097;
-            return;
-        }
-        self.text[len] = b;
-        self.len = len + 1;
+        let at = self.len.min(4096);
+        let n = bytes.len().min(4096 - at);
+        self.text[at..at + n].copy_from_slice(&bytes[..n]);
+        self.number = with_digits(self.number, bytes);
+        self.len = (self.len + bytes.len()).min(4097);
     }
 
     // The number that the line is, if it is one.
@@ -229,8 +233,8 @@ impl Lists<'_> {
             (part bytes.now from result.next) line.new out.new result.count }
     {
         for i in from..bytes.len() {
-            let b = bytes[i];
-            if b == b'\n' {
+            if bytes[i] == b'\n' {
+                line.feed(&bytes[from..i]);
                 let n = self.answer(line, tree, out);
                 line.clear();
                 return Fed {
@@ -238,8 +242,8 @@ impl Lists<'_> {
                     count: n,
                 };
             }
-            line.feed(b);
         }
+        line.feed(&bytes[from..]);
         Fed {
             next: bytes.len(),
             count: 0,
