@@ -115,7 +115,7 @@ fn bucket(h: u64) -> usize
 
 // A seed for the hash, from the list's bytes, sixteen at a time, up to the 6,368th. No answer depends on it; names that share a bucket by one seed
 // do not by another.
-fn list_seed(names: &[u8]) -> u64 {
+pub fn list_seed(names: &[u8]) -> u64 {
     let mut seed = 0;
     for i in (0..6368).step_by(16) {
         if names.len() < i + 16 {
@@ -323,13 +323,13 @@ impl NamesRoom {
         Ok(n)
     }
 
-    // The list, if it keeps to the rules, or refusal 17 at the first faulty line.
-    pub fn check<'a>(&'a mut self, names: &'a [u8]) -> Result<NamesList<'a>, Refusal>
+    // The list, if it keeps to the rules, or refusal 17 at the first faulty line. The hashes begin with the seed, whichever it is.
+    pub fn check<'a>(&'a mut self, names: &'a [u8], seed: u64) -> Result<NamesList<'a>, Refusal>
         requires { Started self.old.starts × Clear 512 256 self.old.heads self.old.next }
         ensures decided { (o : Outcome) → names_check_then result o ≡ names_then names.now o }
         ensures of_names { IfOk result (λ l. l.index.lines.names.now ≡ names.now) }
+        ensures of_seed { IfOk result (λ l. l.index.seed ≡ seed) }
     {
-        let seed = list_seed(names);
         let n = self.fill(names, seed)?;
         let lines = NameLines {
             names,

@@ -13,7 +13,7 @@ ghost use Rattle.term.specs.Written.{Put, Front, EntriesNamed, Gave, ReadBy, Wri
 ghost use Rattle.term.specs.Pass.{Closing, Follows, unlisted_at, SymbolPut, Cleared, Passed};
 
 use model::{Answer, Kind, Refusal, refuse};
-use names::{NameLines, NamesList, NamesRoom, stretch_at};
+use names::{NameLines, NamesList, NamesRoom, list_seed, stretch_at};
 use scan::scan_text;
 use tree::check_tree;
 use words::{put_word, word_at};
@@ -160,7 +160,7 @@ pub fn read_term(names: &[u8], text: &[u8], tree: &mut [u16]) -> Answer
     ensures { ReadTerm names.now text.now tree.old tree.new result }
 {
     let mut room = NamesRoom::new();
-    let list = room.check(names)?;
+    let list = room.check(names, list_seed(names))?;
     read_named(&list, text, tree)
 }
 
@@ -342,6 +342,6 @@ pub fn write_term(names: &[u8], tree: &[u16], text: &mut [u8]) -> Answer
     ensures { WriteTerm names.now tree.now text.old text.new result }
 {
     let mut room = NamesRoom::new();
-    let list = room.check(names)?;
+    let list = room.check(names, list_seed(names))?;
     write_named(&list, tree, text)
 }

@@ -13,13 +13,13 @@ use lib.Dec.{eqb, ltb}
 use borrow.Author.Tests.{lt-ltb, eqb-true, eqb-false}
 use Rattle.model.specs.Table.{Row}
 use Rattle.model.proofs.Choice.{if_yes, if_no}
-use Rattle.rows.specs.Words.{after_in, rows_in, afters}
+use Rattle.rows.specs.Words.{after_in, rows_in}
 use Rattle.rows.proofs.Words.{rows_long}
-use Rattle.counts.specs.Chain.{leads, TargetLink, Chained}
+use Rattle.counts.specs.Chain.{leads, TargetLink}
 use Rattle.counts.specs.States.{held}
 use Rattle.counts.proofs.Chain.{leads_row, leads_end}
 use Rattle.used.specs.Marked.{is_set}
-use Rattle.used.specs.Settled.{target_at, RowsCleared, ClearReady, Cleared}
+use Rattle.used.specs.Settled.{target_at, RowsChained, RowsCleared, ClearReady, Cleared}
 use Rattle.used.proofs.Walk.{AtRow, at_link, target_word, link_next, link_further}
 
 -- ---- the rows of one state
@@ -57,35 +57,34 @@ module _ (pool words : List ℕ) (q : ℕ) where
       let l : k < leads p (length rows) = rw (rows_long pool words) b in
       t.gap k a l (target_word pool words k (omega (arith, l, t.within, rows_long pool words)) ∙ e)
 
-module _ (pool words : List ℕ) {first sums₀ : List ℕ} {q : ℕ} (chained : Chained (rows_in pool words) first (afters words)) (state : q < length first)
-    (room : length words ≤ length sums₀) where
+module _ {words first sums₀ : List ℕ} {q : ℕ} (g : RowsChained words first sums₀ q) where
   pub emptying_begins : (p : ℕ) → p ≡ get_or first q 0 → Emptying words q sums₀ sums₀ p
   emptying_begins p e = record {
-    at_word = to_word pool words q p (at_link p link);
+    at_word = to_word g.pool words q p (at_link p link);
     long = refl;
-    own = λ k l h. absurd (no_row pool words q 0 p k link (omega arith) l h);
+    own = λ k l h. absurd (no_row g.pool words q 0 p k link (omega arith) l h);
     others = λ k ne. refl;
   }
     where
-      link : TargetLink (rows_in pool words) q 0 (length (rows_in pool words)) p
-      link = rw e (chained.firsts q state)
+      link : TargetLink (rows_in g.pool words) q 0 (length (rows_in g.pool words)) p
+      link = rw e (g.chained.firsts q g.state)
 
   module _ {sums : List ℕ} {p : ℕ} (x : Emptying words q sums₀ sums p) (pos : 0 < p) where
     pub word_here : p - 1 < length words
     word_here = x.at_word.inside pos
 
     pub sum_here : p - 1 < length sums
-    sum_here = omega (arith, word_here, x.long, room)
+    sum_here = omega (arith, word_here, x.long, g.sums_room)
 
-    link : (p' : ℕ) → p' ≡ after_in (get_or words (p - 1) 0) → TargetLink (rows_in pool words) q (suc (p - 1)) (length (rows_in pool words)) p'
-    link = link_next pool words chained (from_word pool words q p x.at_word) pos
+    link : (p' : ℕ) → p' ≡ after_in (get_or words (p - 1) 0) → TargetLink (rows_in g.pool words) q (suc (p - 1)) (length (rows_in g.pool words)) p'
+    link = link_next g.pool words g.chained (from_word g.pool words q p x.at_word) pos
 
     pub emptying_further : (p' : ℕ) → p' ≡ after_in (get_or words (p - 1) 0) → length words - leads p' (length words) < length words - leads p (length words)
-    emptying_further p' e = rw (rows_long pool words) at (link_further pool words chained (from_word pool words q p x.at_word) pos p' e)
+    emptying_further p' e = rw (rows_long g.pool words) at (link_further g.pool words g.chained (from_word g.pool words q p x.at_word) pos p' e)
 
     pub emptying_goes : (p' : ℕ) → p' ≡ after_in (get_or words (p - 1) 0) → Emptying words q sums₀ (set sums (p - 1) 0) p'
     emptying_goes p' e = record {
-      at_word = to_word pool words q p' (at_link p' (link p' e));
+      at_word = to_word g.pool words q p' (at_link p' (link p' e));
       long = length-set sums (p - 1) 0 ∙ x.long;
       own = λ k l h. own k l h (eqb k (p - 1)) (eqb-true k (p - 1)) (eqb-false k (p - 1));
       others = λ k ne. get_or-set_other sums (p - 1) k 0 0 (λ z. ne (ap (target_at words) z ∙ x.at_word.mine pos)) ∙ x.others k ne;
@@ -97,7 +96,7 @@ module _ (pool words : List ℕ) {first sums₀ : List ℕ} {q : ℕ} (chained :
           where
             before : Dec (k ≤ p - 1) → k < p - 1
             before (yes le) = omega (arith, n refl)
-            before (no gt) = absurd (no_row pool words q (suc (p - 1)) p' k (link p' e) (omega arith) l h)
+            before (no gt) = absurd (no_row g.pool words q (suc (p - 1)) p' k (link p' e) (omega arith) l h)
 
 pub emptying_ends : {words sums₀ sums : List ℕ} {q p : ℕ} → Emptying words q sums₀ sums p → p ≤ 0 → RowsCleared words q sums₀ sums
 emptying_ends {words} {p = p} x le =
@@ -128,7 +127,7 @@ clearing_begins states words used cs ss = record {
   later_sums = λ k i l. refl;
 }
 
-module _ {states : ℕ} {pool words first used cs₀ ss₀ : List ℕ} (g : ClearReady states pool words first used cs₀ ss₀) where
+module _ {states : ℕ} {words first used cs₀ ss₀ : List ℕ} (g : ClearReady states words first used cs₀ ss₀) where
   module _ {cs ss : List ℕ} {q : ℕ} (x : Clearing states words used cs₀ cs ss₀ ss q) where
     module _ (l : q < states) where
       pub mark_here : q < length used
@@ -137,8 +136,8 @@ module _ {states : ℕ} {pool words first used cs₀ ss₀ : List ℕ} (g : Clea
       pub count_here : q < length cs
       count_here = omega (arith, g.cs_room, x.cs_long)
 
-      pub rows_ready : (q < length first) × (length words ≤ length ss)
-      rows_ready = (omega (arith, g.first_room), omega (arith, g.sums_room, x.sums_long))
+      pub rows_ready : RowsChained words first ss q
+      rows_ready = record { pool = g.pool; chained = g.chained; state = omega (arith, g.first_room); sums_room = omega (arith, g.sums_room, x.sums_long) }
 
       -- a state without a mark
       pub clearing_goes : (ss' : List ℕ) → get_or used q 0 ≡ 0 → RowsCleared words q ss ss' → Clearing states words used cs₀ (set cs q 0) ss₀ ss' (q + 1)
@@ -196,5 +195,5 @@ module _ {states : ℕ} {pool words first used cs₀ ss₀ : List ℕ} (g : Clea
       sums_long = x.sums_long;
       counts = λ a i. x.counts a (omega arith);
       beyond = λ a i. x.later a (omega (arith, x.within));
-      sums = λ k i. x.sums k i (omega (arith, g.ordered.known k (rw (rows_long pool words) i), target_word pool words k i));
+      sums = λ k i. x.sums k i (omega (arith, g.ordered.known k (rw (rows_long g.pool words) i), target_word g.pool words k i));
     }

@@ -23,9 +23,9 @@ use Rattle.model.proofs.Counting.{count_beyond}
 use Rattle.model.proofs.Checked.{ground_used, ground_clear}
 use Rattle.model.proofs.Used.{used_marks, used_beyond, listed_marked}
 use Rattle.model.proofs.UsedKept.{kept_alike}
-use Rattle.rows.specs.Words.{rows_in, held_table}
+use Rattle.rows.specs.Words.{rows_in, afters, held_table}
 use Rattle.rows.proofs.Words.{rows_long}
-use Rattle.counts.specs.Chain.{target}
+use Rattle.counts.specs.Chain.{target, Chained}
 use Rattle.counts.specs.Marks.{top}
 use Rattle.counts.specs.States.{held}
 use Rattle.counts.specs.Prepared.{used_sum, used as used_left, whole}
@@ -114,9 +114,11 @@ module _ {states : ℕ} {pool accepting words first cs ms used₀ ss : List ℕ}
     pub fault_ready : (from : ℕ) → FaultFrom states ms from → FaultReady states ms used from
     fault_ready from f = record { room = g.room.ms_room; used_room = omega (arith, g.room.used_room, u.long); before = f }
 
-    pub clear_ready : ClearReady states pool words first used cs ss
-    clear_ready = record {
+    pub clear_ready : Chained (rows_in pool words) first (afters words) → ClearReady states words first used cs ss
+    clear_ready ch = record {
+      pool = pool;
       ordered = g.ordered;
+      chained = ch;
       first_room = g.room.first_room;
       used_room = omega (arith, g.room.used_room, u.long);
       cs_room = g.room.cs_room;

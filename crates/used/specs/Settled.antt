@@ -5,8 +5,8 @@ use Rattle.model.specs.Answers.{kind_number}
 use Rattle.model.specs.Count.{count}
 use Rattle.model.specs.Check.{count_limit, state_ground}
 use Rattle.chains.specs.First.{AllFine, FirstAt}
-use Rattle.rows.specs.Words.{target_in, rows_in, held_table}
-use Rattle.counts.specs.Chain.{InOrder}
+use Rattle.rows.specs.Words.{target_in, rows_in, afters, held_table}
+use Rattle.counts.specs.Chain.{InOrder, Chained}
 use Rattle.counts.specs.States.{held, CountsKnown}
 use Rattle.counts.specs.Prepared.{UsedCounts, Left}
 use Rattle.used.specs.Marked.{is_set, Placed}
@@ -15,15 +15,24 @@ use Rattle.used.specs.Marked.{is_set, Placed}
 abbrev pub target_at : List ℕ → ℕ → ℕ
 target_at words k = target_in (get_or words k 0)
 
+-- the rows of the words, with some pool, are chained by target, and each has a sum
+pub record RowsChained (words first sums : List ℕ) (q : ℕ) : Type 0 where
+  pub pool : List ℕ
+  pub chained : Chained (rows_in pool words) first (afters words)
+  pub state : q < length first
+  pub sums_room : length words ≤ length sums
+
 -- the sums of the rows of one target are 0, and the others stay
 pub record RowsCleared (words : List ℕ) (q : ℕ) (sums₀ sums : List ℕ) : Type 0 where
   pub long : length sums ≡ length sums₀
   pub own : (k : ℕ) → k < length words → target_at words k ≡ q → get_or sums k 0 ≡ 0
   pub others : (k : ℕ) → (target_at words k ≡ q → ⊥) → get_or sums k 0 ≡ get_or sums₀ k 0
 
--- what unused states are cleared from, beside the chains
-pub record ClearReady (states : ℕ) (pool words first used cs sums : List ℕ) : Type 0 where
+-- what unused states are cleared from
+pub record ClearReady (states : ℕ) (words first used cs sums : List ℕ) : Type 0 where
+  pub pool : List ℕ
   pub ordered : InOrder states (rows_in pool words)
+  pub chained : Chained (rows_in pool words) first (afters words)
   pub first_room : states ≤ length first
   pub used_room : states ≤ length used
   pub cs_room : states ≤ length cs

@@ -9,7 +9,7 @@ ghost use Rattle.rows.specs.Words.{rows_in};
 ghost use Rattle.counts.specs.States.{held};
 ghost use Rattle.used.specs.Marked.{Placed, NoneEmpty, MarkedToo, RowPlaced, row_names, listed_by, AllMarked, PassedBy, TurnReady, Turned, PassReady, FoundUsed};
 ghost use Rattle.used.specs.Limits.{BeyondFrom, FaultFrom, FaultReady, FirstUsed};
-ghost use Rattle.used.specs.Settled.{RowsCleared, ClearReady, Cleared, SettleReady, Settled};
+ghost use Rattle.used.specs.Settled.{RowsChained, RowsCleared, ClearReady, Cleared, SettleReady, Settled};
 
 use counts::ByTarget;
 use model::{Kind, Refusal, refuse};
@@ -196,12 +196,12 @@ pub fn first_fault(states: usize, marks: &[u64], used: &[u8], from: usize) -> Op
 }
 
 // Sets the sums of the rows of state q to 0.
-fn clear_rows(by_target: &ByTarget, sums: &mut [u64], q: usize)
-    requires { (q < length by_target.now.first.now) × (length by_target.now.rows.words.now ≤ length sums.old) }
-    ensures { RowsCleared by_target.now.rows.words.now q sums.old sums.new }
+// (Words and first links, and no ByTarget: the arguments of the rows are not asked for, nor a pool.)
+fn clear_rows(words: &[u64], first: &[u16], sums: &mut [u64], q: usize)
+    requires { RowsChained words.now first.now sums.old q }
+    ensures { RowsCleared words.now q sums.old sums.new }
 {
-    let words = by_target.rows.words;
-    let mut p = usize::from(by_target.first[q]);
+    let mut p = usize::from(first[q]);
     while 0 < p {
         sums[p - 1] = 0;
         p = rows::after_in(words[p - 1]);
@@ -211,19 +211,19 @@ fn clear_rows(by_target: &ByTarget, sums: &mut [u64], q: usize)
 // Sets the counts of unused states, and the sums of their rows, to 0.
 pub fn clear_unused(
     states: usize,
-    by_target: &ByTarget,
+    words: &[u64],
+    first: &[u16],
     used: &[u8],
     counts: &mut [u64],
     sums: &mut [u64],
 )
-    requires { ClearReady states by_target.now.rows.pool.now by_target.now.rows.words.now by_target.now.first.now used.now
-        counts.old sums.old }
-    ensures { Cleared states by_target.now.rows.words.now used.now counts.old counts.new sums.old sums.new }
+    requires { ClearReady states words.now first.now used.now counts.old sums.old }
+    ensures { Cleared states words.now used.now counts.old counts.new sums.old sums.new }
 {
     for q in 0..states {
         if used[q] == 0 {
             counts[q] = 0;
-            clear_rows(by_target, sums, q);
+            clear_rows(words, first, sums, q);
         }
     }
 }
@@ -249,7 +249,14 @@ fn settle_used(
     if let Some((q, kind)) = first_fault(states, marks, used, from) {
         return Err(refuse(kind, q as u64));
     }
-    clear_unused(states, by_target, used, counts, sums);
+    clear_unused(
+        states,
+        by_target.rows.words,
+        by_target.first,
+        used,
+        counts,
+        sums,
+    );
     Ok(())
 }
 

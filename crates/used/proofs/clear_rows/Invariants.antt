@@ -6,7 +6,7 @@ use Rattle.used.proofs.Clearing.{Emptying}
 use Rattle.used.proofs.clear_rows.Given as goal
 
 abbrev pub invariant-loop-p : goal.invariant-loop-p
-invariant-loop-p l = Emptying l.by_target.rows.words.now l.q l.initial.sums l.sums l.p
+invariant-loop-p l = Emptying l.words l.q l.initial.sums l.sums l.p
 
 abbrev pub decreases-loop-p : goal.decreases-loop-p
-decreases-loop-p l = length l.by_target.rows.words.now - leads l.p (length l.by_target.rows.words.now)
+decreases-loop-p l = length l.words - leads l.p (length l.words)
