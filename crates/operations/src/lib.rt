@@ -14,7 +14,7 @@ use rows::Rows;
 use unrank::TreeWriter;
 
 // What is asked of a table: its total, the number of the tree that is lent, or the tree of a number.
-// (An enum, told apart in one match: as three closures, each would have to state again all that the check leaves.)
+// (An enum: as three closures, each would have to state again all that the check leaves.)
 #[derive(Clone, Copy)]
 enum Task {
     Check,

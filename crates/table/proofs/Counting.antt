@@ -9,7 +9,7 @@ use borrow.Author.Tests.{lt-ltb, le-ltb}
 use Rattle.model.specs.declared.Refusal.{Refusal}
 use Rattle.std.specs.Prelude.{Option, Some, None, Result, Ok, Err}
 use Rattle.std.specs.Option.{ok_or}
-use Rattle.model.specs.Answers.{refused, kind_number, refused_by, outcome}
+use Rattle.model.specs.Answers.{result, refused, kind_number, refused_by, outcome}
 use Rattle.model.specs.Table.{Row, Table, accepting_states}
 use Rattle.model.specs.Count.{sum, count, total}
 use Rattle.model.specs.Check.{state_ground, counts_outcome, count_limit}
@@ -28,9 +28,15 @@ use Rattle.table.specs.Checked.{total_or11, StatesReady, StatesAnswer}
 
 -- ---- the total
 
+pub total_over : {n : ℕ} → Is None n → refused 11 0 ≡ total_or11 n
+total_over {n} i = let l = kept_beyond i in rw (lt-ltb count_limit n (omega (arith, l)))
+
+pub total_within : {x n : ℕ} → Is (Some x) n → result x ≡ total_or11 n
+total_within {x} {n} i = rw (kept_within i, le-ltb count_limit n (omega (arith, i)))
+
 pub total_told : (k : Option ℕ) (n : ℕ) (r : Refusal) → Is k n → refused_by r ≡ refused 11 0 → outcome (ok_or k r) ≡ total_or11 n
-total_told (Some x) n r i e = rw (kept_within i, le-ltb count_limit n (omega (arith, i)))
-total_told None n r i e = let l = kept_beyond i in rw (e, lt-ltb count_limit n (omega (arith, l)))
+total_told (Some x) n r i e = total_within i
+total_told None n r i e = e ∙ total_over i
 
 -- ---- the rows chained, the states counted and held to the limits, the total
 

@@ -4,11 +4,16 @@ use Rattle.model.specs.Answers.{Outcome, outcome, lent_after}
 use Rattle.model.specs.TermOperations.{entries_of, bytes_of, read_term_outcome, write_term_outcome, read_term_list, write_term_list}
 use Rattle.std.specs.Prelude.{Result}
 use Rattle.model.specs.declared.Refusal.{Refusal}
+use Rattle.words.specs.Words.{Placed}
 
 -- a piece is put at a place, and the next place comes after it
 pub record Put (old new piece : List ℕ) (at next : ℕ) : Type 0 where
   pub holds : new ≡ take at old ++ piece ++ drop (at + length piece) old
   pub after : next ≡ at + length piece
+
+-- the first n bytes are put at a place, and the other items of the list stay
+abbrev pub Copied : (n : ℕ) (old new : List ℕ) (at : ℕ) (bytes : List ℕ) → Type 0
+Copied n old new at bytes = Placed n old new at (λ k. get_or bytes k 0)
 
 -- the list begins with what is written, and the rest stays
 pub record Front (old new written : List ℕ) : Type 0 where
