@@ -18,13 +18,15 @@ fn read(path: &str) -> String {
 #[test]
 fn kinds_are_those_of_the_library() {
     let source = read("crates/model/src/lib.rt");
-    let arms = source
+    // a kind is declared with its number
+    let of_library: Vec<&str> = source
         .lines()
-        .filter_map(|line| line.trim().strip_prefix("Kind::"));
-    let of_library: Vec<String> = arms.map(String::from).collect();
+        .map(str::trim)
+        .filter(|line| line.contains(" = ") && line.ends_with(','))
+        .collect();
     let here: Vec<String> = Kind::ALL
         .iter()
-        .map(|kind| format!("{kind:?} => {},", kind.number()))
+        .map(|kind| format!("{kind:?} = {},", kind.number()))
         .collect();
     assert_eq!(of_library, here);
     for &kind in Kind::ALL {
