@@ -1,4 +1,4 @@
-// The operations on a table: checking it, numbering a tree, writing the tree of a number. What they set up stands here once for each size of table.
+// The operations on a table: checking it, numbering a tree, writing the tree of a number. What they set up stands here once, for any size of table.
 #![tactic(auto)]
 
 ghost use Rattle.std.specs.Prelude.{◌≡◌, ◌≤◌, ◌<◌, length};
