@@ -10,7 +10,7 @@ ghost use Rattle.index.specs.Index.{found_by, row_found, Index, SoughtRow, Seeki
 ghost use Rattle.index.specs.Taken.{Takeable, Taken};
 ghost use Rattle.index.specs.declared.EnterError.TheVariants.{Crowded as EnterCrowded};
 
-use model::{Kind, Refusal, refuse};
+use model::{Kind, Refusal};
 use rows::Rows;
 
 // A chain of the index is longer than allowed.
@@ -206,7 +206,7 @@ pub fn take_rows(
     let mut n = 0;
     while at < rows.len() {
         if let Err(kind) = rows::step_row(states, rows, n, at) {
-            return Err(TakeError::Refused(refuse(kind, n as u64)));
+            return Err(TakeError::Refused(Refusal::new(kind, n)));
         }
         let args = rows::args_at(rows, at);
         match enter_row(
@@ -223,7 +223,7 @@ pub fn take_rows(
         ) {
             Ok(()) => {}
             Err(EnterError::Repeats) => {
-                return Err(TakeError::Refused(refuse(Kind::RepeatedRow, n as u64)));
+                return Err(TakeError::Refused(Refusal::new(Kind::RepeatedRow, n)));
             }
             Err(EnterError::Crowded) => return Err(TakeError::Crowded),
         }

@@ -9,7 +9,7 @@ ghost use Rattle.term.specs.Written.{Put};
 ghost use Rattle.line.specs.Lines.{decimal, printed, answer_number, answer_term, answer_to, output_for};
 ghost use Rattle.line.specs.Held.{no_end, with_digit, with_digits, longest_line, Holding, Begins, part};
 
-use model::{Answer, Kind, Refusal, refuse};
+use model::{Answer, Kind, Refusal};
 use term::put_bytes;
 
 // What a program answers by: a table and a names list.
@@ -210,7 +210,7 @@ impl Lists<'_> {
             return self.answer_number(number, tree, out);
         }
         if 4096 < n {
-            return put_refusal(refuse(Kind::TextTooLong, 0), out);
+            return put_refusal(Refusal::new(Kind::TextTooLong, 0), out);
         }
         self.answer_term(&line.text[..n], tree, out)
     }

@@ -2,7 +2,10 @@
 #![tactic(auto)]
 
 ghost use Rattle.std.specs.Prelude.{◌≡◌};
-ghost use Rattle.model.specs.Answers.{refused, kind_number, refused_by};
+ghost use Rattle.model.specs.Answers.{kind_number};
+
+use std::fmt;
+use std::fmt::Display;
 
 // The refusals of document 01, in the order of their numbers.
 #[derive(Clone, Copy, PartialEq, Eq, Debug)]
@@ -38,6 +41,7 @@ pub enum Kind {
     ShortTextList = 24,
 }
 
+// A refusal: of which kind, and where.
 #[derive(Clone, Copy, PartialEq, Eq, Debug)]
 pub struct Refusal {
     pub place: u64,
@@ -47,11 +51,22 @@ pub struct Refusal {
 // A result, or the refusal.
 pub type Answer = Result<u64, Refusal>;
 
-// A refusal: of which kind, and where.
-pub fn refuse(kind: Kind, place: u64) -> Refusal
-    ensures { refused_by result ≡ refused (kind_number kind) place }
-{
-    Refusal { place, kind }
+impl Refusal {
+    pub fn new(kind: Kind, place: usize) -> Self
+        ensures { result ≡ record { place = place; kind = kind } }
+    {
+        Refusal {
+            place: place as u64,
+            kind,
+        }
+    }
+}
+
+// As it is printed: the word, document 01's number and the place.
+impl Display for Refusal {
+    fn fmt<W: fmt::Write>(&self, f: &mut fmt::Formatter<W>) -> fmt::Result {
+        write!(f, "refused {} {}", kind_number(self.kind), self.place)
+    }
 }
 
 // Document 01's number of a kind of refusal.

@@ -10,7 +10,7 @@ ghost use Rattle.words.specs.Words.{is_list_byte};
 ghost use Rattle.names.specs.NamesIndex.{caseless, all_inner, stretch, front_of, mixed, bucket_at, hash_of, StretchFrom, OnlyListBytes, name_end, name_found, Lined, NamesIndexed, Started, names_check_then, NamesAnswer};
 
 use chains::mixed;
-use model::{Kind, Refusal, refuse};
+use model::{Kind, Refusal};
 use words::{foreign_bytes, inner_ahead, word_at, word_or_rest, words_alike};
 
 // Where a stretch of bytes from `-` to `z` ends, and its bucket of the index.
@@ -290,11 +290,11 @@ impl NamesRoom {
         let mut at = 0;
         while at < names.len() {
             if 255 <= n {
-                return Err(refuse(Kind::FaultyNames, n as u64));
+                return Err(Refusal::new(Kind::FaultyNames, n));
             }
             let stretch = stretch_at(names, at, seed);
             let Some(end) = name_end(names, clean, at, stretch.end) else {
-                return Err(refuse(Kind::FaultyNames, n as u64));
+                return Err(Refusal::new(Kind::FaultyNames, n));
             };
             let b = stretch.bucket;
             let lines = NameLines {
@@ -309,7 +309,7 @@ impl NamesRoom {
                 seed,
             };
             if index.find(b, &names[at..end]).is_some() {
-                return Err(refuse(Kind::FaultyNames, n as u64));
+                return Err(Refusal::new(Kind::FaultyNames, n));
             }
             next[n] = heads[b];
             n += 1;
@@ -318,7 +318,7 @@ impl NamesRoom {
             starts[n] = at as u16;
         }
         if n == 0 {
-            return Err(refuse(Kind::FaultyNames, 0));
+            return Err(Refusal::new(Kind::FaultyNames, 0));
         }
         Ok(n)
     }

@@ -12,7 +12,7 @@ ghost use Rattle.rank.specs.Machine.{formed, node_of, numbered, machine};
 ghost use Rattle.rank.specs.RankReady.{Foldable, Formable, Closable, Summable, RankReady, StackRoom, symbols, begins};
 
 use index::RowIndex;
-use model::{Answer, Kind, refuse};
+use model::{Answer, Kind, Refusal};
 use rows::Rows;
 use tree::{Reading, Step};
 
@@ -126,7 +126,7 @@ impl<'a> Numbering<'a> {
             }
             earlier += self.counts[usize::from(*a)];
         }
-        Err(refuse(Kind::NotAccepted, place as u64))
+        Err(Refusal::new(Kind::NotAccepted, place))
     }
 
     // The number of a tree, entry by entry: an entry opens a node, or closes one whose children's states and values are waiting. The
@@ -155,7 +155,7 @@ impl<'a> Numbering<'a> {
                     let OpenNode { symbol, begin } = opens[t.depth];
                     let b = usize::from(begin);
                     let Some((q, v)) = self.close(symbol, &waiting[b..w], &values[b..w]) else {
-                        return Err(refuse(Kind::NotAccepted, i as u64));
+                        return Err(Refusal::new(Kind::NotAccepted, i));
                     };
                     store_closed(waiting, values, b, q, v);
                     w = b + 1;

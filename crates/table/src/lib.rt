@@ -10,7 +10,7 @@ ghost use Rattle.table.specs.Checked.{Empty, CrowdReady, RowsReady, RowsChecked,
 
 use counts::ByTarget;
 use index::{TakeError, two};
-use model::{Answer, Kind, Refusal, refuse};
+use model::{Answer, Kind, Refusal};
 use rows::Rows;
 
 // How many rows there are, and the multiplier of their index.
@@ -119,7 +119,7 @@ fn total_of(accepting: &[u16], counts: &[u64]) -> Answer
     requires { ArgsPlaced counts.now accepting.now }
     ensures { outcome result ≡ total_or11 (sum (map (held counts.now) accepting.now)) }
 {
-    counts::sum_of(accepting, counts).ok_or(refuse(Kind::TotalAboveLimit, 0))
+    counts::sum_of(accepting, counts).ok_or(Refusal::new(Kind::TotalAboveLimit, 0))
 }
 
 // The rest of the check, from the states on, where the rows and the accepting list are without fault. Unless it is to prepare for numbering, used
@@ -170,11 +170,11 @@ pub fn check_into(
         first.new counts.new sums.new result }
 {
     if 256 < states {
-        return Err(refuse(Kind::TooManyStates, 0));
+        return Err(Refusal::new(Kind::TooManyStates, 0));
     }
     let taken = check_rows(states, rows, words, heads)?;
     if let Some(i) = faulty_entry(states, accepting) {
-        return Err(refuse(Kind::AcceptingEntry, i as u64));
+        return Err(Refusal::new(Kind::AcceptingEntry, i));
     }
     let total = check_states(
         prepare,

@@ -12,7 +12,7 @@ ghost use Rattle.term.specs.Emit.{entry_text, closing, mark_after, entries_text}
 ghost use Rattle.term.specs.Written.{Put, Front, EntriesNamed, Gave, ReadBy, WriteBy, ReadTerm, WriteTerm};
 ghost use Rattle.term.specs.Pass.{Closing, Follows, unlisted_at, SymbolPut, Cleared, Passed};
 
-use model::{Answer, Kind, Refusal, refuse};
+use model::{Answer, Kind, Refusal};
 use names::{NameLines, NamesList, NamesRoom, list_seed, stretch_at};
 use scan::scan_text;
 use tree::check_tree;
@@ -59,15 +59,15 @@ fn after_name(text: &[u8], end: usize, depth: usize) -> Result<After, Refusal>
         if depth == c {
             return Ok(After::Ends(c + 1));
         }
-        return Err(refuse(Kind::NotATerm, i as u64));
+        return Err(Refusal::new(Kind::NotATerm, i));
     }
     if depth == c {
-        return Err(refuse(Kind::NotATerm, i as u64));
+        return Err(Refusal::new(Kind::NotATerm, i));
     }
     if text[i] == b',' {
         return Ok(After::Name(i + 1, depth - c, c + 1));
     }
-    Err(refuse(Kind::NotATerm, i as u64))
+    Err(Refusal::new(Kind::NotATerm, i))
 }
 
 // What stands at a place is not listed: 20 where the whole text is a term, and else 19 where it stops being one.
@@ -76,8 +76,8 @@ fn unlisted(text: &[u8], place: usize) -> Refusal
     ensures { refused_by result ≡ unlisted_at (scanned text.now) place }
 {
     match scan_text(text) {
-        Some(p) => refuse(Kind::NotATerm, p as u64),
-        None => refuse(Kind::UnlistedName, place as u64),
+        Some(p) => Refusal::new(Kind::NotATerm, p),
+        None => Refusal::new(Kind::UnlistedName, place),
     }
 }
 
@@ -134,10 +134,10 @@ fn put_tree(entries: &[u8; 4096], needed: usize, tree: &mut [u16]) -> Answer
     ensures { Gave (fits_in 4096 needed (length tree.old)) (take needed entries.now) tree.old tree.new result }
 {
     if 4096 < needed {
-        return Err(refuse(Kind::TermTreeTooLong, 0));
+        return Err(Refusal::new(Kind::TermTreeTooLong, 0));
     }
     if tree.len() < needed {
-        return Err(refuse(Kind::ShortTermTree, needed as u64));
+        return Err(Refusal::new(Kind::ShortTermTree, needed));
     }
     put_front(entries, needed, tree);
     Ok(needed as u64)
@@ -148,7 +148,7 @@ fn read_named(list: &NamesList, text: &[u8], tree: &mut [u16]) -> Answer
     ensures { ReadBy (read_named 4096) list.now.index.lines.names.now text.now tree.old tree.new result }
 {
     if 65536 < text.len() {
-        return Err(refuse(Kind::TextTooLong, 0));
+        return Err(Refusal::new(Kind::TextTooLong, 0));
     }
     let mut entries = [0u8; 4096];
     let needed = read_text(list, text, &mut entries)?;
@@ -312,7 +312,7 @@ fn write_fitting(lines: &NameLines, tree: &[u16], text: &mut [u8]) -> Answer
 {
     let needed = text_length(lines, tree);
     if text.len() < needed {
-        return Err(refuse(Kind::ShortTextList, needed as u64));
+        return Err(Refusal::new(Kind::ShortTextList, needed));
     }
     put_text(lines, tree, text);
     Ok(needed as u64)
@@ -324,7 +324,7 @@ fn write_formed(list: &NamesList, tree: &[u16], text: &mut [u8]) -> Answer
     ensures { WriteBy write_formed list.now.index.lines.names.now tree.now text.old text.new result }
 {
     match first_unnamed(tree, list.index.lines.n) {
-        Some(place) => Err(refuse(Kind::UnnamedSymbol, place as u64)),
+        Some(place) => Err(Refusal::new(Kind::UnnamedSymbol, place)),
         None => write_fitting(&list.index.lines, tree, text),
     }
 }

@@ -2,9 +2,9 @@
 #![tactic(auto)]
 
 ghost use Rattle.std.specs.Prelude.{◌≡◌, ◌<◌, ◌≤◌};
-ghost use Rattle.tree.specs.Reading.{fresh, not_a_tree, step_of, end_of, Decides};
+ghost use Rattle.tree.specs.Reading.{fresh, step_of, end_of, Decides};
 
-use model::{Kind, Refusal, refuse};
+use model::{Kind, Refusal};
 
 // How many nodes are open, and how many entries were read: the place of the next one.
 #[derive(Clone, Copy, PartialEq, Eq, Debug)]
@@ -18,16 +18,6 @@ pub struct Reading {
 pub enum Step {
     Opens(Reading),
     Closes(Reading),
-}
-
-// Refusal 13 at a place.
-fn not_a_tree(place: usize) -> Refusal
-    ensures { result ≡ not_a_tree place }
-{
-    Refusal {
-        place: place as u64,
-        kind: Kind::NotATree,
-    }
 }
 
 impl Reading {
@@ -46,7 +36,7 @@ impl Reading {
         let Reading { depth, place } = self;
         // with no node open, nothing was read or the root's bar was
         if 255 < e || depth == 0 && (0 < place || e == 0) {
-            return Err(not_a_tree(place));
+            return Err(Refusal::new(Kind::NotATree, place));
         }
         let place = place + 1;
         if e == 0 {
@@ -68,7 +58,7 @@ impl Reading {
     {
         let Reading { depth, place } = self;
         if place == 0 || 0 < depth {
-            return Err(not_a_tree(place));
+            return Err(Refusal::new(Kind::NotATree, place));
         }
         Ok(())
     }
@@ -79,7 +69,7 @@ pub fn check_tree(tree: &[u16]) -> Result<(), Refusal>
     ensures { Decides tree.now result }
 {
     if 4096 < tree.len() {
-        return Err(refuse(Kind::TreeTooLong, 0));
+        return Err(Refusal::new(Kind::TreeTooLong, 0));
     }
     let mut s = Reading::new();
     for e in tree {

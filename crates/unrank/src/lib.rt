@@ -9,7 +9,7 @@ ghost use Rattle.unrank.specs.Trees.{Opening, opened_at, Enters, Shared, child_o
 ghost use Rattle.unrank.specs.Written.{WroteNumber, WroteBelow};
 
 use counts::ByTarget;
-use model::{Answer, Kind, refuse};
+use model::{Answer, Kind, Refusal};
 use rows::Rows;
 
 // The row in which a value falls: its word, what it counts, and the value less what the state's earlier rows count.
@@ -183,7 +183,7 @@ impl<'a> TreeWriter<'a> {
         let Spot { state, value } = self.find_state(number);
         let needed = self.tree_length(state, value);
         if tree.len() < needed {
-            return Err(refuse(Kind::ShortTreeList, needed as u64));
+            return Err(Refusal::new(Kind::ShortTreeList, needed));
         }
         self.write_tree(state, value, tree);
         Ok(needed as u64)
@@ -196,7 +196,7 @@ impl<'a> TreeWriter<'a> {
             tree.old tree.new result }
     {
         if self.total <= number {
-            return Err(refuse(Kind::NumberNotBelowTotal, 0));
+            return Err(Refusal::new(Kind::NumberNotBelowTotal, 0));
         }
         self.write_number(number, tree)
     }

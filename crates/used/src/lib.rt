@@ -12,7 +12,7 @@ ghost use Rattle.used.specs.Limits.{BeyondFrom, FaultFrom, FaultReady, FirstUsed
 ghost use Rattle.used.specs.Settled.{RowsChained, RowsCleared, ClearReady, Cleared, SettleReady, Settled};
 
 use counts::ByTarget;
-use model::{Kind, Refusal, refuse};
+use model::{Kind, Refusal};
 use rows::Rows;
 
 // The most entries that a state's longest tree may have.
@@ -247,7 +247,7 @@ fn settle_used(
 {
     find_used(states, accepting, by_target, counts, used);
     if let Some((q, kind)) = first_fault(states, marks, used, from) {
-        return Err(refuse(kind, q as u64));
+        return Err(Refusal::new(kind, q));
     }
     clear_unused(
         states,

@@ -1,5 +1,6 @@
+use Rattle.model.specs.Answers.{refused_by}
 -- Row by row: tested by 2 to 5, then looked for among those before it and entered.
-use mathlib.Core.Path.{sym, ◌∙◌}
+use mathlib.Core.Path.{ap, sym, ◌∙◌}
 use native.Mathlib.Omega.{arith}
 use Rattle.rows.proofs.Walk.{stepped}
 use Rattle.index.proofs.Taking.{still_sized, taking_begins, taking_enters, taking_goes, taking_repeats, taking_stops, taking_ends}
@@ -9,7 +10,7 @@ pub loop-at-init : goal.loop-at-init
 loop-at-init c = let p = c.requires in taking_begins _ _ _ _ _ p.room p.clear
 
 pub returns-in-Err : goal.returns-in-Err
-returns-in-Err c = taking_stops c.loop-at.invariant c.loop-at-test.true _ _ _ c.refuse.ensures (sym c.step_row.ensures ∙ c.in-Err.is)
+returns-in-Err c = taking_stops c.loop-at.invariant c.loop-at-test.true _ _ _ (ap refused_by c.new.ensures) (sym c.step_row.ensures ∙ c.in-Err.is)
 
 pub args_at-args-requires : goal.args_at-args-requires
 args_at-args-requires c = (stepped _ _ _ _ (sym c.step_row.ensures ∙ c.in_default.is)).whole
@@ -23,7 +24,7 @@ enter_row-requires c =
 
 pub returns-in-Err-Repeats : goal.returns-in-Err-Repeats
 returns-in-Err-Repeats c =
-    taking_repeats c.loop-at.invariant c.loop-at-test.true c.requires.few (sym c.step_row.ensures ∙ c.in_default.is) _ _ c.refuse-in-Err-Repeats.ensures _ c.args_at-args.ensures
+    taking_repeats c.loop-at.invariant c.loop-at-test.true c.requires.few (sym c.step_row.ensures ∙ c.in_default.is) _ _ (ap refused_by c.new-in-Err-Repeats.ensures) _ c.args_at-args.ensures
     (c.enter_row.ensures.repeats (rw c.in-Err-Repeats.field-0-is at c.in-Err-Repeats.is))
 
 pub loop-at-preserved : goal.loop-at-preserved

@@ -1,3 +1,5 @@
+use mathlib.Core.Path.{ap}
+use Rattle.model.specs.Answers.{refused_by}
 -- One ground after the other, in the order of document 01.
 use Rattle.std.proofs.Common.{◌≡◌, Err, rules, refl, ◌∙◌, arith}
 use Rattle.model.proofs.Numbers.{kind_positive}
@@ -6,7 +8,7 @@ use Rattle.table.proofs.Taken.{taken_fine, taken_room}
 use Rattle.table.proofs.check_into.Goals as goal
 
 pub returns-then-states-gt256 : goal.returns-then-states-gt256
-returns-then-states-gt256 c = refused_answer _ (c.refuse.ensures ∙ too_many_lem _ _ _ c.if-states-gt256.true)
+returns-then-states-gt256 c = refused_answer _ ((ap refused_by c.new.ensures) ∙ too_many_lem _ _ _ c.if-states-gt256.true)
 
 pub returns-in_err-taken : goal.returns-in_err-taken
 returns-in_err-taken c =
@@ -17,7 +19,7 @@ returns-in_err-taken c =
 pub returns-in-Some : goal.returns-in-Some
 returns-in-Some c =
     refused_answer _
-    (c.refuse-in-Some.ensures
+    ((ap refused_by c.new-in-Some.ensures)
     ∙ entry_refused _ _ _ c.if-states-gt256.false (taken_fine _ (c.check_rows.ensures.passed _ c.in_ok-taken.was)) _ (c.faulty_entry.ensures.some _ c.in-Some.is))
 
 pub slice_bounds-check_states-end : goal.slice_bounds-check_states-end

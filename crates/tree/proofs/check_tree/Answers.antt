@@ -1,11 +1,12 @@
-use mathlib.Core.Path.{sym, ◌∙◌}
+use Rattle.model.specs.Answers.{refused_by}
+use mathlib.Core.Path.{ap, sym, ◌∙◌}
 use Rattle.std.proofs.lemmas.Result.{err_from_is_err_and}
 use Rattle.tree.proofs.Laws.{either, refused_here, begins, ended, too_long}
 use Rattle.tree.proofs.check_tree.Goals as goal
 use Rattle.tree.proofs.check_tree.Goals.{in-Opens, in-Opens-2}
 
 pub returns-then-tree-gt4096 : goal.returns-then-tree-gt4096
-returns-then-tree-gt4096 c = record { decided = λ o. c.refuse.ensures ∙ too_long _ c.if-tree-gt4096.true o }
+returns-then-tree-gt4096 c = record { decided = λ o. (ap refused_by c.new.ensures) ∙ too_long _ c.if-tree-gt4096.true o }
 
 pub loop-e-init : goal.loop-e-init
 loop-e-init c = begins _ _ c.if-tree-gt4096.false c.new-s.ensures

@@ -1,13 +1,14 @@
+use Rattle.model.specs.Answers.{refused_by}
 use native.Mathlib.Omega.{arith}
-use mathlib.Core.Path.{sym, ◌∙◌}
+use mathlib.Core.Path.{ap, sym, ◌∙◌}
 use Rattle.names.proofs.Lines.{too_many_lem, no_name, fits, part_inner, part_bucket, again, on_none, entered, short_end, no_lines_at_all, faulty_line, sound_list}
 use Rattle.names.proofs.NamesRoom.fill.Goals as goal
 
 pub returns-then-n-ge255 : goal.returns-then-n-ge255
-returns-then-n-ge255 c = faulty_line _ c.refuse.ensures (too_many_lem c.loop-at.invariant c.loop-at-test.true c.if-n-ge255.true)
+returns-then-n-ge255 c = faulty_line _ (ap refused_by c.new.ensures) (too_many_lem c.loop-at.invariant c.loop-at-test.true c.if-n-ge255.true)
 
 pub returns-in_default : goal.returns-in_default
-returns-in_default c = faulty_line _ c.refuse-in_default.ensures (no_name c.loop-at.invariant c.loop-at-test.true (sym c.name_end.ensures ∙ c.in_default.is))
+returns-in_default c = faulty_line _ (ap refused_by c.new-in_default.ensures) (no_name c.loop-at.invariant c.loop-at-test.true (sym c.name_end.ensures ∙ c.in_default.is))
 
 pub slice_bounds-find-count : goal.slice_bounds-find-count
 slice_bounds-find-count c = omega (arith, (fits c.loop-at.invariant c.loop-at-test.true _ (sym c.name_end.ensures ∙ c.in-Some.is)).1)
@@ -27,7 +28,7 @@ find-requires-clause-name_value c = part_inner c.loop-at.invariant c.loop-at-tes
 
 pub returns-then-is_some : goal.returns-then-is_some
 returns-then-is_some c =
-    faulty_line _ c.refuse-then-is_some.ensures (again c.loop-at.invariant c.loop-at-test.true _ (sym c.name_end.ensures ∙ c.in-Some.is) _ c.find.ensures (sym c.is_some.ensures ∙ c.if-is_some.true))
+    faulty_line _ (ap refused_by c.new-then-is_some.ensures) (again c.loop-at.invariant c.loop-at-test.true _ (sym c.name_end.ensures ∙ c.in-Some.is) _ c.find.ensures (sym c.is_some.ensures ∙ c.if-is_some.true))
 
 pub overflow_cast-starts : goal.overflow_cast-starts
 overflow_cast-starts c = omega (arith, short_end c.loop-at.invariant c.loop-at-test.true _ (sym c.name_end.ensures ∙ c.in-Some.is), c.if-n-ge255.false)
@@ -42,7 +43,7 @@ loop-at-preserved c =
     c.stretch_at-stretch.ensures.below (on_none c.loop-at.invariant c.loop-at-test.true _ e _ c.find.ensures (sym c.is_some.ensures ∙ c.if-is_some.false))
 
 pub returns-then-n-eq0 : goal.returns-then-n-eq0
-returns-then-n-eq0 c = faulty_line _ c.refuse-then-n-eq0.ensures (no_lines_at_all c.loop-at.invariant c.loop-at-test.false c.if-n-eq0.true)
+returns-then-n-eq0 c = faulty_line _ (ap refused_by c.new-then-n-eq0.ensures) (no_lines_at_all c.loop-at.invariant c.loop-at-test.false c.if-n-eq0.true)
 
 pub returns : goal.returns
 returns c = sound_list c.loop-at.invariant c.loop-at-test.false c.if-n-eq0.false

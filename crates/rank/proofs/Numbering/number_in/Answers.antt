@@ -1,5 +1,6 @@
+use Rattle.model.specs.Answers.{refused_by}
 use native.Mathlib.Omega.{arith}
-use mathlib.Core.Path.{◌∙◌}
+use mathlib.Core.Path.{ap, ◌∙◌}
 use Rattle.rank.proofs.Summing.{sum_begins, sum_goes, sum_fits, number_fits, listed_here, not_listed}
 use Rattle.rank.proofs.Numbering.number_in.Goals as goal
 
@@ -19,4 +20,4 @@ pub loop-a-preserved : goal.loop-a-preserved
 loop-a-preserved c = sum_goes c.loop-a.invariant c.loop-a-test.true _ c.from.ensures c.if-a-q.false
 
 pub returns : goal.returns
-returns c = c.refuse.ensures ∙ not_listed c.loop-a.invariant c.loop-a-test.false _ _
+returns c = (ap refused_by c.new.ensures) ∙ not_listed c.loop-a.invariant c.loop-a-test.false _ _

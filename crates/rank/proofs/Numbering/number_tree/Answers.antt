@@ -1,3 +1,4 @@
+use Rattle.model.specs.Answers.{refused_by}
 use native.Mathlib.Omega.{arith}
 use Rattle.std.specs.Prelude.{Ok}
 use Prim.Native.Nat.{◌<◌}
@@ -46,7 +47,7 @@ close-requires c =
 
 pub returns-in_default : goal.returns-in_default
 returns-in_default c =
-    c.refuse.ensures ∙ node_sticks c.loop-i.invariant c.loop-i-test.true _ (sym c.entry.ensures ∙ c.in_ok-t.was ∙ ap Ok c.in-Closes.is) _ (begin_at c.loop-i.opens _ _ c.from-b.ensures) (node_at c.loop-i.opens _ _ _ _ _ _ (sym c.close.ensures ∙ c.in_default.is))
+    (ap refused_by c.new.ensures) ∙ node_sticks c.loop-i.invariant c.loop-i-test.true _ (sym c.entry.ensures ∙ c.in_ok-t.was ∙ ap Ok c.in-Closes.is) _ (begin_at c.loop-i.opens _ _ c.from-b.ensures) (node_at c.loop-i.opens _ _ _ _ _ _ (sym c.close.ensures ∙ c.in_default.is))
 
 pub store_closed-requires : goal.store_closed-requires
 store_closed-requires c =
