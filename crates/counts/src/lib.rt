@@ -162,7 +162,8 @@ fn longer_of(long: u64, s: u64) -> u64
 }
 
 // Chains the rows by their targets, in their order, by links in their words.
-// (Pool, words and first links come apart: what is written here is what a `ByTarget` is made of.)
+// (No method of `Rows` or of `ByTarget`, which borrow the words for reading: here words and first links are written, and a `ByTarget` can be made of
+// them and of the pool only after.)
 pub fn chain_rows(pool: &[u16], words: &mut [u64], first: &mut [u16])
     requires { Chainable pool.now words.old first.old }
     ensures { ChainedRows pool.now words.old first.old words.new first.new }
@@ -170,7 +171,7 @@ pub fn chain_rows(pool: &[u16], words: &mut [u64], first: &mut [u16])
     for m in (0..words.len()).rev() {
         let w = words[m];
         let t = usize::from(rows::target_in(w));
-        words[m] = w + u64::from(first[t]) * 4503599627370496;
+        words[m] = rows::with_after(w, first[t]);
         first[t] = (m + 1) as u16;
     }
 }

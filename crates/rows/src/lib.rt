@@ -1,18 +1,21 @@
 // Rows as words: one row by the grounds 2 to 5, and one number a row for all that comes after.
 #![tactic(auto)]
 
-ghost use Rattle.std.specs.Prelude.{◌≡◌, ◌+◌, ◌<◌, length};
+ghost use Rattle.std.specs.Prelude.{◌≡◌, ◌+◌, ◌^◌, ◌<◌, length};
 ghost use Rattle.std.proofs.Props.{props};
 ghost use Rattle.model.specs.Table.{args_at, Whole};
 ghost use Rattle.model.specs.Check.{cut, too_many};
-ghost use Rattle.rows.specs.Words.{a_row, word_of, symbol_in, target_in, next_in, after_in, args_in, Inside, Held};
+ghost use Rattle.rows.specs.Words.{a_row, word_of, with_after, symbol_in, target_in, next_in, after_in, args_in, Inside, Held};
 ghost use Rattle.rows.specs.Walk.{above, out_by, row_fault, row_step};
 
 use model::Kind;
 
 // Rows as words: each holds a row whose arguments stand in the pool.
-// (The links of the index and of the targets are parts of the words, and not lists of their own: the library has no heap.)
-#[derive(Clone, Copy)]
+// (A word is a bare number, read by the functions below. As a `struct Word(u64)` with methods it would make lists of structs of what is said of lists of
+// numbers: each `get_or words r 0` would need a word that stands for none, and each part of a word, in `Held` and all that rests on it, `.field-0`.)
+// (The links of the index and of the targets are parts of the words, and not lists beside them: memory is fixed, arrays on the stack, and two lists of
+// links would be two more arrays of a place for each row.)
+#[derive(Clone, Copy, Debug)]
 pub struct Rows<'a> {
     pub pool: &'a [u16],
     pub words: &'a [u64],
@@ -57,6 +60,14 @@ pub fn after_in(w: u64) -> usize
     ensures { result ≡ after_in w }
 {
     (w / 4503599627370496) as usize
+}
+
+// A word with its link to the next row of the same target, which it did not have.
+pub fn with_after(w: u64, after: u16) -> u64
+    requires { with_after w after < 2 ^ 64 }
+    ensures { result ≡ with_after w after }
+{
+    w + u64::from(after) * 4503599627370496
 }
 
 // The arguments of the row of a word, as a part of the pool.
