@@ -7,12 +7,14 @@ use mathlib.Core.List.{List}
 use native.Mathlib.Omega.{arith}
 use lib.ListN.{length, get_or, set}
 use lib.Seq.{get_or-set_same, get_or-set_other}
+use Rattle.model.specs.declared.Refusal.{Refusal}
+use Rattle.model.specs.Answers.{refused, refused_by}
 use Rattle.model.specs.Choice.{any_below}
 use Rattle.model.specs.Table.{Row, row_is}
 use Rattle.rows.specs.Words.{a_row, word_of, next_in, nexts, row_in, row_held, Apart}
 use Rattle.rows.proofs.Words.{apart, row_of_lem, map_set}
 use Rattle.index.specs.declared.Crowded.{Crowded}
-use Rattle.index.specs.declared.EnterError.TheVariants.{Repeats, Crowded as EnterCrowded}
+use Rattle.index.specs.declared.TakeError.TheVariants.{Refused, Crowded as TakeCrowded}
 use Rattle.index.specs.Hash.{hash_of}
 use Rattle.index.specs.Index.{found_by, repeated_by, row_bucket, IndexBy, SoughtRow, Enterable, EnteredRow}
 use Rattle.index.proofs.Laws.{index_same, earlier_same, earlier_by, indexed}
@@ -38,11 +40,16 @@ module _ {by most : ℕ} {pool words heads : List ℕ} {n symbol target from : �
   earlier : (f : Option ℕ) → f ≡ found_by (row_held pool words) n (key % 256) args → any_below n (λ j. row_is (row_held pool words j) symbol args) ≡ is_some f
   earlier f e = earlier_by (row_held pool words) n symbol args f (rw its_symbol at e)
 
-  pub enter_repeats : (f : Option ℕ) → o ≡ Ok f → is_some f ≡ true → EnteredRow by most pool words heads words heads n symbol target from args (Err Repeats)
-  enter_repeats f e t = record { enters = λ h. cc; repeats = λ h. earlier f (s.sought f e) ∙ t; crowds = λ h. cc }
+  pub enter_repeats : (f : Option ℕ) → o ≡ Ok f → is_some f ≡ true → (r : Refusal) → refused_by r ≡ refused 6 n → EnteredRow by most pool words heads words heads n symbol target from args (Err (Refused r))
+  enter_repeats f e t r said = record {
+    enters = λ h. cc;
+    repeats = λ g h. earlier f (s.sought f e) ∙ t;
+    refusal = λ g h. let z : r ≡ g = cc in rw z at said;
+    crowds = λ h. cc;
+  }
 
-  pub enter_crowded : (k : Crowded) → o ≡ Err k → EnteredRow by most pool words heads words heads n symbol target from args (Err EnterCrowded)
-  enter_crowded k e = record { enters = λ h. cc; repeats = λ h. cc; crowds = λ h. s.crowded k e }
+  pub enter_crowded : (k : Crowded) → o ≡ Err k → EnteredRow by most pool words heads words heads n symbol target from args (Err TakeCrowded)
+  enter_crowded k e = record { enters = λ h. cc; repeats = λ g h. cc; refusal = λ g h. cc; crowds = λ h. s.crowded k e }
 
   module _ (f : Option ℕ) (e : o ≡ Ok f) (t : is_some f ≡ false) (b : ℕ) (lt : b < length heads) (bucket : b ≡ hash_of by (length heads) key args) (w : ℕ) (word_is : w ≡ word_of symbol (length args) target from (get_or heads b 0)) where
     parts : Apart w symbol (length args) target from (get_or heads b 0)
@@ -68,6 +75,7 @@ module _ {by most : ℕ} {pool words heads : List ℕ} {n symbol target from : �
     pub enter_enters : EnteredRow by most pool words heads (set words n w) (set heads b (n + 1)) n symbol target from args (Ok tt)
     enter_enters = record {
       enters = λ h. record { word = w; next = get_or heads b 0; parts = parts; put = refl; index = entered };
-      repeats = λ h. cc;
+      repeats = λ g h. cc;
+      refusal = λ g h. cc;
       crowds = λ h. cc;
     }

@@ -1,5 +1,6 @@
 -- Laws of the one pass: the grounds 2 to 5 row by row, and 6 by the index of the rows before. Assumes nothing.
-use Rattle.std.specs.Prelude.{Result, Ok, Err, if◌then◌else◌}
+use Rattle.std.specs.Prelude.{Result, Ok, Err, MatchResult, if◌then◌else◌}
+use Rattle.std.specs.Result.{IsErrAnd}
 use Prim.Native.Nat.{ℕ, zero, suc, ◌+◌, ◌*◌, ◌<◌, ◌≤◌}
 use mathlib.Core.Path.{◌≡◌, refl, sym, ap, subst, ◌∙◌}
 use mathlib.Core.Bool.{Bool, true, false}
@@ -31,7 +32,7 @@ use Rattle.rows.proofs.Walk.{form_else, ground_is, Stepped, stepped}
 use Rattle.index.specs.declared.TakeError.{TakeError}
 use Rattle.index.specs.declared.TakeError.TheVariants.{Refused, Crowded}
 use Rattle.index.specs.Hash.{Multiplier, Sized}
-use Rattle.index.specs.Index.{repeated_by, IndexBy, Enterable, RowEntered}
+use Rattle.index.specs.Index.{repeated_by, IndexBy, Enterable, RowEntered, EnteredRow}
 use Rattle.index.specs.Taken.{AllTaken, Taken}
 use Rattle.index.proofs.Laws.{index_begins, index_same, earlier_same, repeated_same, words_index}
 
@@ -113,6 +114,23 @@ pub record Taking (by states : ℕ) (rows words heads : List ℕ) (at n : ℕ) :
   pub index : IndexBy by (length heads) (length words) (row_held rows words) n heads (nexts words)
   pub free : (r : ℕ) → r < n → after_in (get_or words r 0) ≡ 0
 
+-- what the test of row n says, where its ground is made a refusal at n
+abbrev pub Placed : (n : ℕ) → Result (Unit {0}) Kind → Result (Unit {0}) Refusal → Type 0
+Placed n k r = MatchResult k (λ x. r ≡ Ok x) (λ e. IsErrAnd r (λ f. f ≡ record { place = n; kind = e }))
+
+pub placed_ok : (n : ℕ) (k : Result (Unit {0}) Kind) (r : Result (Unit {0}) Refusal) → Placed n k r → r ≡ Ok (tt {0}) → {o : Result (Unit {0}) Kind} → k ≡ o → o ≡ Ok (tt {0})
+placed_ok n (Ok u) r h e s = sym s
+placed_ok n (Err x) (Ok u) h e s = absurd h
+placed_ok n (Err x) (Err f) h e s = cc
+
+pub placed_err : (n : ℕ) (k : Result (Unit {0}) Kind) (r : Result (Unit {0}) Refusal) → Placed n k r → (f : Refusal) → r ≡ Err f → (k ≡ Err f.kind) × (f.place ≡ n)
+placed_err n (Ok u) r h f e = cc
+placed_err n (Err x) (Ok u) h f e = absurd h
+placed_err n (Err x) (Err g) h f e =
+    let z : g ≡ f = cc in
+    let y : f ≡ record { place = n; kind = x } = sym z ∙ h in
+    (ap (λ (k : Kind). Err k) (sym (ap (λ (r : Refusal). r.kind) y)), ap (λ (r : Refusal). r.place) y)
+
 pub taking_begins : (by states : ℕ) (rows words heads : List ℕ) → Room (length words) (length rows) → Clear (length heads) (length words) heads (nexts words) → Taking by states rows words heads 0 0
 unfolding row_start
 taking_begins by states rows words heads room clear = record {
@@ -135,7 +153,7 @@ module _ {by states : ℕ} {rows words heads : List ℕ} {at n : ℕ} (x : Takin
       row_by states rows i false (x.fine i l)
       (is_false (repeated rows i) (λ e. first_none (repeated_by (row_held rows words)) n x.index.distinct i l (repeated_same (row_held rows words) (row_numbered rows) n x.same i l ∙ e)))
 
-  pub taking_crowded : (most : ℕ) → most ≤ n → {words' heads' : List ℕ} → Taken by most states rows words' heads' (Err Crowded)
+  taking_crowded : (most : ℕ) → most ≤ n → {words' heads' : List ℕ} → Taken by most states rows words' heads' (Err Crowded)
   taking_crowded most le = record {
     passed = λ m h. cc;
     stopped = λ f h. cc;
@@ -188,7 +206,7 @@ module _ {by states : ℕ} {rows words heads : List ℕ} {at n : ℕ} (x : Takin
         part = rw args_many refl;
       })
 
-      pub taking_repeats : (most : ℕ) (f : Refusal) → refused_by f ≡ refused 6 n → (args : List ℕ) → args ≡ args_at rows at → any_below n (λ j. row_is (row_held rows words j) (get_or rows at 0) args) ≡ true
+      taking_repeats : (most : ℕ) (f : Refusal) → refused_by f ≡ refused 6 n → (args : List ℕ) → args ≡ args_at rows at → any_below n (λ j. row_is (row_held rows words j) (get_or rows at 0) args) ≡ true
           → {words' heads' : List ℕ} → Taken by most states rows words' heads' (Err (Refused f))
       unfolding repeated
       taking_repeats most f said args is t =
@@ -197,6 +215,11 @@ module _ {by states : ℕ} {rows words heads : List ℕ} {at n : ℕ} (x : Takin
           (sym (earlier_same (row_held rows words) (row_numbered rows) n x.same (row_numbered rows n).symbol (row_numbered rows n).args)
           ∙ ap (λ (a : ℕ). any_below n (λ j. row_is (row_held rows words j) (get_or rows a 0) (args_at rows a))) (sym x.here)
           ∙ (rw is at t)))
+
+      pub taking_refuses : (most : ℕ) (args : List ℕ) → args ≡ args_at rows at → {words' heads' : List ℕ} (e : TakeError)
+          → EnteredRow by most rows words heads words' heads' n (get_or rows at 0) (get_or rows (at + 1) 0) (at + 3) args (Err e) → Taken by most states rows words' heads' (Err e)
+      taking_refuses most args is (Refused f) y = taking_repeats most f (y.refusal f refl) args is (y.repeats f refl)
+      taking_refuses most args is Crowded y = taking_crowded most (y.crowds refl)
 
       pub taking_goes : (args : List ℕ) → args ≡ args_at rows at → {words' heads' : List ℕ} → RowEntered by rows words heads words' heads' n (get_or rows at 0) (get_or rows (at + 1) 0) (at + 3) args
           → Taking by states rows words' heads' (at + (3 + length args)) (n + 1)

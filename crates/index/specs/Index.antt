@@ -1,13 +1,15 @@
 -- The index of rows: the rows chained by bucket, however they are lent; and one row more. Assumes nothing: these are definitions.
 use Rattle.std.specs.Prelude.{ℕ, ◌+◌, ◌*◌, ◌/◌, ◌≤◌, ◌<◌, ◌≡◌, Bool, true, List, length, set, take, drop, Option, None, Result, Ok, Err}
+use Rattle.model.specs.declared.Refusal.{Refusal}
+use Rattle.model.specs.Answers.{refused, refused_by}
 use Rattle.model.specs.Choice.{any_below}
 use Rattle.model.specs.Table.{Row, row_is}
 use Rattle.chains.specs.First.{first_with}
 use Rattle.chains.specs.Chains.{Chains}
 use Rattle.rows.specs.Words.{row_no, nexts, row_held, Held, Apart}
 use Rattle.index.specs.declared.Crowded.{Crowded}
-use Rattle.index.specs.declared.EnterError.{EnterError}
-use Rattle.index.specs.declared.EnterError.TheVariants.{Repeats, Crowded as EnterCrowded}
+use Rattle.index.specs.declared.TakeError.{TakeError}
+use Rattle.index.specs.declared.TakeError.TheVariants.{Refused, Crowded as TakeCrowded}
 use Rattle.index.specs.Hash.{hash_of, Multiplier, Sized}
 
 -- rows given by number: the first of the first n with symbol s and arguments xs
@@ -75,8 +77,9 @@ pub record RowEntered (by : ℕ) (pool words₀ heads₀ words heads : List ℕ)
   pub put : words ≡ set words₀ n word
   pub index : IndexBy by (length heads₀) (length words₀) (row_held pool words) (n + 1) heads (nexts words)
 
--- it was entered; or it has the symbol and the arguments of a row before it; or it is said to be crowded, as above
-pub record EnteredRow (by most : ℕ) (pool words₀ heads₀ words heads : List ℕ) (n symbol target from : ℕ) (args : List ℕ) (r : Result (Unit {0}) EnterError) : Type 0 where
+-- it was entered; or it has the symbol and the arguments of a row before it, and is refused; or it is said to be crowded, as above
+pub record EnteredRow (by most : ℕ) (pool words₀ heads₀ words heads : List ℕ) (n symbol target from : ℕ) (args : List ℕ) (r : Result (Unit {0}) TakeError) : Type 0 where
   pub enters : r ≡ Ok tt → RowEntered by pool words₀ heads₀ words heads n symbol target from args
-  pub repeats : r ≡ Err Repeats → any_below n (λ j. row_is (row_held pool words₀ j) symbol args) ≡ true
-  pub crowds : r ≡ Err EnterCrowded → most ≤ n
+  pub repeats : (f : Refusal) → r ≡ Err (Refused f) → any_below n (λ j. row_is (row_held pool words₀ j) symbol args) ≡ true
+  pub refusal : (f : Refusal) → r ≡ Err (Refused f) → refused_by f ≡ refused 6 n
+  pub crowds : r ≡ Err TakeCrowded → most ≤ n

@@ -4,39 +4,44 @@
 ghost use Rattle.std.specs.Prelude.{◌≡◌, ◌+◌, ◌*◌, ◌/◌, ◌%◌, ◌<◌, ◌≤◌, length, get_or, drop};
 ghost use Rattle.std.proofs.Props.{props};
 ghost use Rattle.model.specs.Table.{same_list, row_is};
-ghost use Rattle.rows.specs.Words.{row_in, row_held, rows_in, nexts, Inside, Held};
+ghost use Rattle.rows.specs.Words.{row_in, row_held, nexts, Inside, Held};
+ghost use Rattle.rows.specs.Listed.{all_rows};
 ghost use Rattle.index.specs.Hash.{two, fours, mix, mix_all, hash_of, Multiplier, Sized};
 ghost use Rattle.index.specs.Index.{found_by, row_found, Index, SoughtRow, Seeking, Enterable, EnteredRow};
 ghost use Rattle.index.specs.Taken.{Takeable, Taken};
-ghost use Rattle.index.specs.declared.EnterError.TheVariants.{Crowded as EnterCrowded};
+ghost use Rattle.index.specs.declared.TakeError.TheVariants.{Refused, Crowded as TakeCrowded};
 
 use model::{Kind, Refusal};
 use rows::Rows;
 
+// More rows than any chain has: no chain is longer than allowed.
+pub const ANY_NUMBER: usize = 2048;
+
 // A chain of the index is longer than allowed.
-#[derive(Clone, Copy)]
+#[derive(Clone, Copy, Debug, PartialEq, Eq)]
 pub struct Crowded;
 
-// Why a row was not entered in the index: it repeats an earlier one, or its chain is longer than allowed.
-#[derive(Clone, Copy)]
-pub enum EnterError {
-    Repeats,
-    Crowded,
-}
-
-impl From<Crowded> for EnterError {
-    ghost from_gives = { λ _ e. e ≡ EnterCrowded };
-
-    fn from(_e: Crowded) -> EnterError {
-        EnterError::Crowded
-    }
-}
-
 // Why rows were not taken: the first faulty one is refused, or a chain of the index is longer than allowed.
-#[derive(Clone, Copy)]
+#[derive(Clone, Copy, Debug, PartialEq, Eq)]
 pub enum TakeError {
     Refused(Refusal),
     Crowded,
+}
+
+impl From<Refusal> for TakeError {
+    ghost from_gives = { λ f e. e ≡ Refused f };
+
+    fn from(refusal: Refusal) -> TakeError {
+        TakeError::Refused(refusal)
+    }
+}
+
+impl From<Crowded> for TakeError {
+    ghost from_gives = { λ _ e. e ≡ TakeCrowded };
+
+    fn from(_crowded: Crowded) -> TakeError {
+        TakeError::Crowded
+    }
 }
 
 // Whether two argument lists of one length are equal. `==` takes a third longer where all rows of a crowded bucket are compared: it tests in groups.
@@ -135,18 +140,18 @@ fn seek(
 }
 
 // Rows and their index: the first row of each bucket's chain, and the multiplier of the hash.
-#[derive(Clone, Copy)]
+#[derive(Clone, Copy, Debug)]
 pub struct RowIndex<'a> {
     pub rows: Rows<'a>,
     pub heads: &'a [u16],
     pub by: u64,
-    ghost index: { Index by (rows_in rows.pool.now rows.words.now) heads.now (nexts rows.words.now) } by { Prim.hlevel props },
+    ghost index: { Index by (all_rows rows) heads.now (nexts rows.words.now) } by { Prim.hlevel props },
 }
 
 impl<'a> RowIndex<'a> {
     // The row with this symbol and these arguments.
     pub fn find(&self, symbol: u16, args: &[u16]) -> Option<usize>
-        ensures { result ≡ row_found (rows_in self.now.rows.pool.now self.now.rows.words.now) symbol args.now }
+        ensures { result ≡ row_found (all_rows self.now.rows) symbol args.now }
     {
         if 16 < args.len() || 255 < symbol {
             return None;
@@ -154,36 +159,51 @@ impl<'a> RowIndex<'a> {
         let Rows { pool, words } = self.rows;
         let key = u64::from(symbol) + args.len() as u64 * 256;
         let b = hash(self.by, self.heads.len(), key, args);
-        // no chain has more than 1,024 rows
-        seek(pool, words, self.heads, words.len(), b, 2048, key, args).unwrap()
+        seek(
+            pool,
+            words,
+            self.heads,
+            words.len(),
+            b,
+            ANY_NUMBER,
+            key,
+            args,
+        )
+        .unwrap()
     }
 }
 
-// Puts row n, whose arguments begin at `from` in the pool, behind the words of the rows before it, and enters it in their index, unless it
-// repeats one of them or its chain has more than `most` rows.
+// A row whose arguments stand in a pool, from entry `from` on.
+#[derive(Clone, Copy, Debug)]
+pub struct PooledRow<'a> {
+    pub symbol: u16,
+    pub target: u16,
+    pub from: usize,
+    pub args: &'a [u16],
+}
+
+// Puts row n behind the words of the rows before it, and enters it in their index, unless its chain has more than `most` rows; or refuses it, if it
+// repeats one of them: 6.
 pub fn enter_row(
     pool: &[u16],
-    symbol: u16,
-    target: u16,
-    from: usize,
-    args: &[u16],
+    row: &PooledRow,
     n: usize,
     by: u64,
     most: usize,
     words: &mut [u64],
     heads: &mut [u16],
-) -> Result<(), EnterError>
-    requires { Enterable by pool.now words.old heads.old n symbol target from args.now }
+) -> Result<(), TakeError>
+    requires { Enterable by pool.now words.old heads.old n row.now.symbol row.now.target row.now.from row.now.args.now }
     ensures { EnteredRow by most pool.now words.old heads.old words.new heads.new
-        n symbol target from args.now result }
+        n row.now.symbol row.now.target row.now.from row.now.args.now result }
 {
-    let count = args.len();
-    let key = u64::from(symbol) + count as u64 * 256;
-    let b = hash(by, heads.len(), key, args);
-    if seek(pool, words, heads, n, b, most, key, args)?.is_some() {
-        return Err(EnterError::Repeats);
+    let count = row.args.len();
+    let key = u64::from(row.symbol) + count as u64 * 256;
+    let b = hash(by, heads.len(), key, row.args);
+    if seek(pool, words, heads, n, b, most, key, row.args)?.is_some() {
+        return Err(TakeError::Refused(Refusal::new(Kind::RepeatedRow, n)));
     }
-    words[n] = rows::word(symbol, count, target, from, heads[b]);
+    words[n] = rows::word(row.symbol, count, row.target, row.from, heads[b]);
     heads[b] = (n + 1) as u16;
     Ok(())
 }
@@ -205,29 +225,15 @@ pub fn take_rows(
     // not a `for`: each row's count of arguments says where the next row begins
     let mut n = 0;
     while at < rows.len() {
-        if let Err(kind) = rows::step_row(states, rows, n, at) {
-            return Err(TakeError::Refused(Refusal::new(kind, n)));
-        }
-        let args = rows::args_at(rows, at);
-        match enter_row(
-            rows,
-            rows[at],
-            rows[at + 1],
-            at + 3,
-            args,
-            n,
-            by,
-            most,
-            words,
-            heads,
-        ) {
-            Ok(()) => {}
-            Err(EnterError::Repeats) => {
-                return Err(TakeError::Refused(Refusal::new(Kind::RepeatedRow, n)));
-            }
-            Err(EnterError::Crowded) => return Err(TakeError::Crowded),
-        }
-        at += 3 + args.len();
+        rows::step_row(states, rows, n, at).map_err(|kind| Refusal::new(kind, n))?;
+        let row = PooledRow {
+            symbol: rows[at],
+            target: rows[at + 1],
+            from: at + 3,
+            args: rows::args_at(rows, at),
+        };
+        enter_row(rows, &row, n, by, most, words, heads)?;
+        at += 3 + row.args.len();
         n += 1;
     }
     Ok(n)
