@@ -14,8 +14,8 @@ ghost use Rattle.index.specs.declared.TakeError.TheVariants.{Refused, Crowded as
 use model::{Kind, Refusal};
 use rows::Rows;
 
-// More rows than any chain has: no chain is longer than allowed.
-pub const ANY_NUMBER: usize = 2048;
+// As the most rows of a chain: any number, since there are at most 1,024 rows.
+pub const ANY_LENGTH: usize = 2048;
 
 // A chain of the index is longer than allowed.
 #[derive(Clone, Copy, Debug, PartialEq, Eq)]
@@ -165,7 +165,7 @@ impl<'a> RowIndex<'a> {
             self.heads,
             words.len(),
             b,
-            ANY_NUMBER,
+            ANY_LENGTH,
             key,
             args,
         )

@@ -91,7 +91,7 @@ module _ {prepare : Bool} {states : ℕ} {rows accepting words heads first count
         list = ap (λ (o : Outcome). lent_after o (tree_entries (table_of states rows accepting) number) old) (then_same _ refuses);
       }
 
-  module _ (t n by : ℕ) (e : o ≡ Ok (record { total = t; rows = n; by = by })) where
+  module _ (t n by : ℕ) (e : o ≡ Ok (record { total = t; rows = record { count = n; by = by } })) where
     passes : Passes states rows accepting t
     passes = sym a.answer ∙ ap told e
 
@@ -99,9 +99,9 @@ module _ {prepare : Bool} {states : ℕ} {rows accepting words heads first count
     check_passed = record { answer = sym passes; list = refl }
 
   -- numbering and writing go on from what the check leaves
-  module _ (t n by : ℕ) (e : o ≡ Ok (record { total = t; rows = n; by = by })) where
+  module _ (t n by : ℕ) (e : o ≡ Ok (record { total = t; rows = record { count = n; by = by } })) where
     p : PreparedRows prepare by states rows accepting words heads first counts sums n
-    p = a.passed (record { total = t; rows = n; by = by }) e
+    p = a.passed (record { total = t; rows = record { count = n; by = by } }) e
 
     -- the table of the rows that the words hold is the table that is lent
     same_table : table_of states rows accepting ≡ held_table states rows (take n words) accepting

@@ -72,12 +72,19 @@ fn answer_in<'a, const ROWS: usize, const STATES: usize, const HEADS: usize>(
     )?;
     let held = Rows {
         pool: rows,
-        words: &words[..checked.rows],
+        words: &words[..checked.rows.count],
     };
     match task {
         Task::Check => Ok(checked.total),
         Task::Number => {
-            let numbering = Numbering::new(held, &heads, checked.by, accepting, &counts, &sums);
+            let numbering = Numbering::new(
+                held,
+                &heads,
+                checked.rows.by,
+                accepting,
+                &counts,
+                &sums,
+            );
             numbering.number(tree)
         }
         Task::Write(number) => {

@@ -1,5 +1,5 @@
 -- Laws of the accepting list's check. Assumes nothing.
-use Rattle.std.specs.Prelude.{Some, None}
+use Rattle.std.specs.Prelude.{Ok, Err}
 use Prim.Native.Nat.{ℕ, ◌+◌, ◌<◌, ◌≤◌}
 use mathlib.Core.Path.{◌≡◌, refl, sym, ap, ◌∙◌}
 use mathlib.Core.Bool.{Bool, true, false, not, ◌||◌, or-false}
@@ -11,10 +11,12 @@ use lib.Seq.{get_or-set_same, get_or-set_other}
 use lib.Dec.{eqb, ltb}
 use borrow.Author.Tests.{eq-eqb, ne_eqb, eqb-true, eqb-false, lt-ltb, le-ltb}
 use borrow.Author.Count.{below_more}
+use Rattle.model.specs.declared.Refusal.{Refusal}
+use Rattle.model.specs.Answers.{refused, refused_by}
 use Rattle.model.specs.Choice.{any_below}
 use Rattle.model.specs.Check.{accepting_ground}
 use Rattle.model.proofs.Choice.{or_right}
-use Rattle.chains.specs.First.{AllFine, FirstAt}
+use Rattle.chains.specs.First.{AllFine}
 use Rattle.table.specs.Checked.{EntriesChecked}
 
 -- some entry before entry i is q
@@ -36,16 +38,14 @@ unfolding any_below
 listed_more accepting i q = rw (add-one i)
 
 module _ {states : ℕ} {accepting : List ℕ} {seen : List Bool} {i : ℕ} (x : Seeing states accepting seen i) (few : states ≤ 256) (lt : i < length accepting) (a : ℕ) (is : a ≡ get_or accepting i 0) where
-  entry_found : accepting_ground states accepting i ≡ 7 → EntriesChecked states accepting (Some i)
-  entry_found e = record {
-    none = λ h. cc;
-    some = λ m h. same m h;
+  entry_found : accepting_ground states accepting i ≡ 7 → (f : Refusal) → refused_by f ≡ refused 7 i → EntriesChecked states accepting (Err f)
+  entry_found e f said = record {
+    passed = λ h. cc;
+    stopped = λ g h. let z : g.place ≡ i = cc in rw z (record { inside = lt; before = x.fine; here = e });
+    seventh = λ g h. cc;
   }
-    where
-      same : (m : ℕ) → Some i ≡ Some m → FirstAt (length accepting) (accepting_ground states accepting) m 7
-      same m h = let z : i ≡ m = cc in rw (← z) (record { inside = lt; before = x.fine; here = e })
 
-  pub no_state : states ≤ a → EntriesChecked states accepting (Some i)
+  pub no_state : states ≤ a → (f : Refusal) → refused_by f ≡ refused 7 i → EntriesChecked states accepting (Err f)
   unfolding accepting_ground
   no_state ge = entry_found (rw (le-ltb (get_or accepting i 0) states (rw is at ge)))
 
@@ -53,7 +53,7 @@ module _ {states : ℕ} {accepting : List ℕ} {seen : List Bool} {i : ℕ} (x :
     seen_is : get_or seen a false ≡ listed accepting i (get_or accepting i 0)
     seen_is = x.marks a (omega arith) ∙ ap (listed accepting i) is
 
-    pub seen_before : get_or seen a false ≡ true → EntriesChecked states accepting (Some i)
+    pub seen_before : get_or seen a false ≡ true → (f : Refusal) → refused_by f ≡ refused 7 i → EntriesChecked states accepting (Err f)
     unfolding accepting_ground
     seen_before m = entry_found (rw (or_right (not (ltb (get_or accepting i 0) states)) (listed accepting i (get_or accepting i 0)) (sym seen_is ∙ m)))
 
@@ -83,8 +83,9 @@ module _ {states : ℕ} {accepting : List ℕ} {seen : List Bool} {i : ℕ} (x :
         fine = below_more _ i x.fine fine_here;
       }
 
-pub seeing_ends : {states : ℕ} {accepting : List ℕ} {seen : List Bool} {i : ℕ} → Seeing states accepting seen i → length accepting ≤ i → EntriesChecked states accepting None
+pub seeing_ends : {states : ℕ} {accepting : List ℕ} {seen : List Bool} {i : ℕ} → Seeing states accepting seen i → length accepting ≤ i → EntriesChecked states accepting (Ok tt)
 seeing_ends {states} {accepting} {seen} {i} x ge = record {
-  none = λ h j lt. x.fine j (omega arith);
-  some = λ m h. cc;
+  passed = λ h j lt. x.fine j (omega arith);
+  stopped = λ f h. cc;
+  seventh = λ f h. cc;
 }

@@ -123,7 +123,7 @@ module _ (accepting words : List ℕ) (n : ℕ) {by states : ℕ} {rows heads : 
       total_refused f e = refused_answer f (ap outcome (sym e) ∙ y.answer ∙ from_here)
 
       -- the table passes: the part that was lent is what the first n words hold then
-      pub total_passed : (t : ℕ) → r ≡ Ok t → (words' : List ℕ) → words' ≡ ys ++ drop n words → CheckAnswer prepare states rows accepting words' heads first counts sums (Ok (record { total = t; rows = n; by = by }))
+      pub total_passed : (t : ℕ) → r ≡ Ok t → (words' : List ℕ) → words' ≡ ys ++ drop n words → CheckAnswer prepare states rows accepting words' heads first counts sums (Ok (record { total = t; rows = record { count = n; by = by } }))
       total_passed t e words' is = record { answer = ap outcome (sym e) ∙ y.answer ∙ from_here; passed = λ k h. other k h }
         where
           long : length ys ≡ n
@@ -139,7 +139,7 @@ module _ (accepting words : List ℕ) (n : ℕ) {by states : ℕ} {rows heads : 
             prepared = rw part (record { index = rw (y.same, y.links) x.index; left = y.counted t e });
           }
 
-          other : (k : Checked) → ◌≡◌ {A = Result Checked Refusal} (Ok (record { total = t; rows = n; by = by })) (Ok k) → PreparedRows prepare k.by states rows accepting words' heads first counts sums k.rows
+          other : (k : Checked) → ◌≡◌ {A = Result Checked Refusal} (Ok (record { total = t; rows = record { count = n; by = by } })) (Ok k) → PreparedRows prepare k.rows.by states rows accepting words' heads first counts sums k.rows.count
           other k h =
-              let z : ◌≡◌ {A = Checked} (record { total = t; rows = n; by = by }) k = cc in
-              subst (λ (k : Checked). PreparedRows prepare k.by states rows accepting words' heads first counts sums k.rows) z ready
+              let z : ◌≡◌ {A = Checked} (record { total = t; rows = record { count = n; by = by } }) k = cc in
+              subst (λ (k : Checked). PreparedRows prepare k.rows.by states rows accepting words' heads first counts sums k.rows.count) z ready

@@ -1,5 +1,5 @@
 -- The check in its parts, and what a table that passes leaves for numbering and writing. Assumes nothing: these are definitions.
-use Rattle.std.specs.Prelude.{ℕ, ◌<◌, ◌≤◌, ◌≡◌, Bool, true, List, length, get_or, take, ltb, Option, Some, None, Result, Ok, Err, if◌then◌else◌}
+use Rattle.std.specs.Prelude.{ℕ, ◌<◌, ◌≤◌, ◌≡◌, Bool, true, List, length, get_or, take, ltb, Result, Ok, Err, if◌then◌else◌}
 use Rattle.model.specs.declared.Refusal.{Refusal}
 use Rattle.model.specs.Answers.{Outcome, result, refused, kind_number, refused_by, outcome}
 use Rattle.model.specs.Table.{rows_of, how_many_rows}
@@ -33,13 +33,14 @@ pub record RowsReady (states : ℕ) (rows words heads : List ℕ) : Type 0 where
 
 -- the rows: none is faulty, and the first words hold them; or the first faulty one
 pub record RowsChecked (states : ℕ) (rows words heads : List ℕ) (r : Result CheckedRows Refusal) : Type 0 where
-  pub passed : (k : CheckedRows) → r ≡ Ok k → AllTaken k.by states rows (take k.rows words) heads k.rows
+  pub passed : (k : CheckedRows) → r ≡ Ok k → AllTaken k.by states rows (take k.count words) heads k.count
   pub stopped : (f : Refusal) → r ≡ Err f → FirstAt (how_many_rows rows) (row_ground states rows) f.place (kind_number f.kind)
 
--- the accepting list: no entry is faulty, or the first that is
-pub record EntriesChecked (states : ℕ) (accepting : List ℕ) (r : Option ℕ) : Type 0 where
-  pub none : r ≡ None → AllFine (length accepting) (accepting_ground states accepting)
-  pub some : (i : ℕ) → r ≡ Some i → FirstAt (length accepting) (accepting_ground states accepting) i 7
+-- the accepting list: no entry is faulty; or the first that is, refused as 7
+pub record EntriesChecked (states : ℕ) (accepting : List ℕ) (r : Result (Unit {0}) Refusal) : Type 0 where
+  pub passed : r ≡ Ok tt → AllFine (length accepting) (accepting_ground states accepting)
+  pub stopped : (f : Refusal) → r ≡ Err f → FirstAt (length accepting) (accepting_ground states accepting) f.place 7
+  pub seventh : (f : Refusal) → r ≡ Err f → kind_number f.kind ≡ 7
 
 -- "Last, a total above [the limit] is 11."
 abbrev pub total_or11 : ℕ → Outcome
@@ -108,4 +109,4 @@ pub record PreparedRows (prepare : Bool) (by states : ℕ) (rows accepting words
 -- what the check answers, and what it leaves where the table passes: the first n words hold its rows
 pub record CheckAnswer (prepare : Bool) (states : ℕ) (rows accepting words heads first counts sums : List ℕ) (r : Result Checked Refusal) : Type 0 where
   pub answer : told r ≡ check_outcome states rows accepting
-  pub passed : (k : Checked) → r ≡ Ok k → PreparedRows prepare k.by states rows accepting words heads first counts sums k.rows
+  pub passed : (k : Checked) → r ≡ Ok k → PreparedRows prepare k.rows.by states rows accepting words heads first counts sums k.rows.count

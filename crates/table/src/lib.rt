@@ -6,26 +6,25 @@ ghost use Rattle.model.specs.Answers.{outcome};
 ghost use Rattle.model.specs.Count.{sum};
 ghost use Rattle.counts.specs.States.{held, ArgsPlaced};
 ghost use Rattle.index.specs.Hash.{Multiplier};
-ghost use Rattle.table.specs.Checked.{Empty, CrowdReady, RowsReady, RowsChecked, EntriesChecked, total_or11, StatesReady, StatesAnswer, Blank, CheckAnswer};
+ghost use Rattle.table.specs.Checked.{Empty, RowsReady, RowsChecked, EntriesChecked, total_or11, StatesReady, StatesAnswer, Blank, CheckAnswer};
 
 use counts::ByTarget;
-use index::{TakeError, two};
+use index::{ANY_LENGTH, TakeError, two};
 use model::{Answer, Kind, Refusal};
 use rows::Rows;
 
 // How many rows there are, and the multiplier of their index.
-#[derive(Clone, Copy)]
-struct CheckedRows {
-    rows: usize,
-    by: u64,
+#[derive(Clone, Copy, Debug, PartialEq, Eq)]
+pub struct CheckedRows {
+    pub count: usize,
+    pub by: u64,
 }
 
-// What the internal check finds where a table passes: the total, how many rows there are and the multiplier of their index.
-#[derive(Clone, Copy)]
+// What the internal check finds where a table passes: the total, and its rows.
+#[derive(Clone, Copy, Debug, PartialEq, Eq)]
 pub struct Checked {
     pub total: u64,
-    pub rows: usize,
-    pub by: u64,
+    pub rows: CheckedRows,
 }
 
 // The multiplier with which rows are first indexed.
@@ -56,28 +55,8 @@ fn own_multiplier(rows: &[u16]) -> u64
     2147483649 + h % 536870911 * 2
 }
 
-// Takes the rows once more, with empty buckets and the table's own multiplier, however many rows fall into one bucket.
-fn check_crowded(
-    states: u64,
-    rows: &[u16],
-    words: &mut [u64],
-    heads: &mut [u16],
-) -> Result<CheckedRows, Refusal>
-    requires { CrowdReady states rows.now words.old heads.old }
-    ensures { RowsChecked states rows.now words.new heads.new result }
-{
-    heads.fill(0);
-    let by = own_multiplier(rows);
-    match index::take_rows(states, rows, by, 2048, words, heads) {
-        Ok(n) => Ok(CheckedRows { rows: n, by }),
-        Err(TakeError::Refused(refusal)) => Err(refusal),
-        // no bucket has more than 1,024 rows
-        Err(TakeError::Crowded) => unreachable!(),
-    }
-}
-
-// Tests the rows in turn by the grounds 2 to 6, and stores their words and their index. Gives how many there are, or the first faulty one. Where a
-// bucket holds too many rows they are indexed once more, with the table's own multiplier.
+// Tests the rows in turn by the grounds 2 to 6, and stores their words and their index. Where a bucket holds too many rows they are taken once more,
+// with empty buckets and the table's own multiplier, however many rows fall into one bucket.
 fn check_rows(
     states: u64,
     rows: &[u16],
@@ -87,18 +66,23 @@ fn check_rows(
     requires { RowsReady states rows.now words.old heads.old }
     ensures { RowsChecked states rows.now words.new heads.new result }
 {
-    match index::take_rows(states, rows, MULTIPLIER, MOST, words, heads) {
-        Ok(n) => Ok(CheckedRows {
-            rows: n,
-            by: MULTIPLIER,
-        }),
+    let mut by = MULTIPLIER;
+    let mut taken = index::take_rows(states, rows, by, MOST, words, heads);
+    if taken == Err(TakeError::Crowded) {
+        heads.fill(0);
+        by = own_multiplier(rows);
+        taken = index::take_rows(states, rows, by, ANY_LENGTH, words, heads);
+    }
+    match taken {
+        Ok(count) => Ok(CheckedRows { count, by }),
         Err(TakeError::Refused(refusal)) => Err(refusal),
-        Err(TakeError::Crowded) => check_crowded(states, rows, words, heads),
+        // no bucket has more than 1,024 rows
+        Err(TakeError::Crowded) => unreachable!(),
     }
 }
 
-// The first accepting entry that is no state or equals an earlier one: 7.
-fn faulty_entry(states: u64, accepting: &[u16]) -> Option<usize>
+// Refuses the first accepting entry that is no state or equals an earlier one: 7.
+fn check_accepting(states: u64, accepting: &[u16]) -> Result<(), Refusal>
     requires { states ≤ 256 }
     ensures { EntriesChecked states accepting.now result }
 {
@@ -106,11 +90,11 @@ fn faulty_entry(states: u64, accepting: &[u16]) -> Option<usize>
     for (i, entry) in accepting.iter().enumerate() {
         let q = usize::from(*entry);
         if states <= u64::from(*entry) || seen[q] {
-            return Some(i);
+            return Err(Refusal::new(Kind::AcceptingEntry, i));
         }
         seen[q] = true;
     }
-    None
+    Ok(())
 }
 
 // The total; or 11 where it is above the largest number of 64 bits.
@@ -151,7 +135,8 @@ fn check_states(
 }
 
 // The check of a table, which leaves in the lent arrays what writing needs of one that passes, and what numbering needs if it is to prepare for that.
-// (They stay apart, and no struct of `&mut`s: each step fills some of them and reads others, and its contract says of each what it then holds.)
+// (They stay apart, and no struct of `&mut`s: each step fills some of them and reads others, and its contract says of each what it then holds. `prepare`
+// is a bool: `used::settle` and the clauses take it as one side of `prepare || from < states`, and an enum of two cases would be turned into it there.)
 pub fn check_into(
     prepare: bool,
     states: u64,
@@ -172,16 +157,14 @@ pub fn check_into(
     if 256 < states {
         return Err(Refusal::new(Kind::TooManyStates, 0));
     }
-    let taken = check_rows(states, rows, words, heads)?;
-    if let Some(i) = faulty_entry(states, accepting) {
-        return Err(Refusal::new(Kind::AcceptingEntry, i));
-    }
+    let checked = check_rows(states, rows, words, heads)?;
+    check_accepting(states, accepting)?;
     let total = check_states(
         prepare,
         states as usize,
         rows,
         accepting,
-        &mut words[..taken.rows],
+        &mut words[..checked.count],
         first,
         counts,
         marks,
@@ -190,7 +173,6 @@ pub fn check_into(
     )?;
     Ok(Checked {
         total,
-        rows: taken.rows,
-        by: taken.by,
+        rows: checked,
     })
 }

@@ -1,5 +1,7 @@
-use Rattle.table.proofs.Taken.{still_ready}
+use Rattle.std.proofs.Common.{rules}
+use Rattle.table.proofs.Taken.{takeable, still_ready}
 use Rattle.table.proofs.check_rows.Goals as goal
 
-pub check_crowded-requires : goal.check_crowded-requires
-check_crowded-requires c = still_ready c.requires.ready c.take_rows.auto.words c.take_rows.auto.heads
+pub take_rows-taken-requires-then-eq : goal.take_rows-taken-requires-then-eq
+take_rows-taken-requires-then-eq c =
+    takeable (still_ready c.requires.ready c.take_rows-taken.auto.words c.take_rows-taken.auto.heads) c.own_multiplier-by.ensures (search rules) (search rules)
