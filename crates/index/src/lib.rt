@@ -49,12 +49,7 @@ fn same(a: &[u16], b: &[u16]) -> bool
     requires { length a.now ≡ length b.now }
     ensures { result ≡ same_list a.now b.now }
 {
-    for i in 0..a.len() {
-        if a[i] != b[i] {
-            return false;
-        }
-    }
-    true
+    a.iter().zip(b).all(|(x, y)| x == y)
 }
 
 // Whether the row of a word has the symbol and the count of a key, and these arguments.

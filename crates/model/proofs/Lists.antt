@@ -8,6 +8,7 @@ use native.Mathlib.Nat.{not-suc-le-zero, le_of_suc-le-suc}
 use native.Mathlib.Numerals.{add-one}
 use lib.ListN.{length, get_or, drop, drop_of_length-le}
 use lib.Seq.{drop-cons}
+use Rattle.std.specs.List.{list_all, zip}
 use Rattle.model.specs.Table.{same_by}
 use Rattle.model.proofs.Choice.{and_true, and_both, not_both}
 
@@ -26,6 +27,14 @@ module _ (agree : ℕ → ℕ → Bool) where
   pub same_end : (a b : List ℕ) (i : ℕ) → length a ≤ i → length b ≤ i → same_by agree (drop i a) (drop i b) ≡ true
   unfolding same_by
   same_end a b i la lb = rw (drop_of_length-le a {i = i} la, drop_of_length-le b {i = i} lb)
+
+  -- place by place
+  pub same_each : (a b : List ℕ) → length a ≡ length b → list_all (λ p. agree p.0 p.1) (zip a b) ≡ same_by agree a b
+  unfolding same_by
+  same_each [] [] e = refl
+  same_each [] (y ∷ b) e = absurd (omega arith)
+  same_each (x ∷ a) [] e = absurd (omega arith)
+  same_each (x ∷ a) (y ∷ b) e = ap (λ (t : Bool). agree x y && t) (same_each a b (omega arith))
 
   pub same_length : (a b : List ℕ) → (length a ≡ length b → ⊥) → same_by agree a b ≡ false
   unfolding same_by
