@@ -104,7 +104,8 @@ fn hash(by: u64, size: usize, key: u64, args: &[u16]) -> usize
 }
 
 // The row among the first n with the symbol and count of a key and these arguments, whose bucket is b, by at most so many steps along its chain.
-// (Not over a RowIndex: enter_row seeks while the words and heads are being filled. Not a `for`: the links say where the next step goes.)
+// (Not over a RowIndex: enter_row seeks while the words and heads are being filled. Not a `for` over the rows of a chain: the iterator would be a type with
+// a law of its own, that links lead to lower rows and which rows a step passes, to say once more what the invariant says of the one loop that walks here.)
 fn seek(
     pool: &[u16],
     words: &[u64],
