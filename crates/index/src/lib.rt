@@ -52,14 +52,6 @@ fn same(a: &[u16], b: &[u16]) -> bool
     a.iter().zip(b).all(|(x, y)| x == y)
 }
 
-// Whether the row of a word has the symbol and the count of a key, and these arguments.
-fn row_is(pool: &[u16], w: u64, key: u64, args: &[u16]) -> bool
-    requires { Inside pool.now w × (key / 256 ≡ length args.now) }
-    ensures { result ≡ row_is (row_in pool.now w) (key % 256) args.now }
-{
-    w % 65536 == key && same(rows::args_in(pool, w), args)
-}
-
 // Two arguments as one number.
 pub fn two(a: u16, b: u16) -> u64
     ensures { (result ≡ two a b) × (result < 4294967296) }
@@ -88,22 +80,52 @@ fn mix_rest(by: u64, start: u64, args: &[u16]) -> u64
     }
 }
 
-// The bucket, of `size`, of a key and arguments.
-fn hash(by: u64, size: usize, key: u64, args: &[u16]) -> usize
-    requires { Multiplier by × Sized size × (key < 65536) }
-    ensures { (result ≡ hash_of by size key args.now) × (result < size) }
-{
-    let mut h = key;
-    let mut left = args;
-    while let [a, b, c, d, rest @ ..] = left {
-        h = mixed(by, h, two(*a, *b) + two(*c, *d) * 256);
-        left = rest;
-    }
-    let x = mix_rest(by, h, left) * by % 4294967296;
-    (x * size as u64 / 4294967296) as usize
+// What rows are compared by: the symbol and the count of arguments, as they stand in a word, and the arguments.
+#[derive(Clone, Copy, Debug)]
+struct Key<'a> {
+    front: u64,
+    args: &'a [u16],
+    ghost low: { front < 65536 },
+    ghost counted: { front / 256 ≡ length args.now },
 }
 
-// The row among the first n with the symbol and count of a key and these arguments, whose bucket is b, by at most so many steps along its chain.
+impl<'a> Key<'a> {
+    fn new(symbol: u16, args: &'a [u16]) -> Key<'a>
+        requires { (symbol < 256) × (length args.now < 256) }
+        ensures front { result.front ≡ symbol + length args.now * 256 }
+        ensures args { result.args.now ≡ args.now }
+    {
+        Key {
+            front: u64::from(symbol) + args.len() as u64 * 256,
+            args,
+        }
+    }
+
+    // The bucket of such rows, of `size`.
+    fn bucket(&self, by: u64, size: usize) -> usize
+        requires { Multiplier by × Sized size }
+        ensures { (result ≡ hash_of by size self.now.front self.now.args.now) × (result < size) }
+    {
+        let mut h = self.front;
+        let mut left = self.args;
+        while let [a, b, c, d, rest @ ..] = left {
+            h = mixed(by, h, two(*a, *b) + two(*c, *d) * 256);
+            left = rest;
+        }
+        let x = mix_rest(by, h, left) * by % 4294967296;
+        (x * size as u64 / 4294967296) as usize
+    }
+
+    // Whether the row of a word is such a row.
+    fn row_is(&self, pool: &[u16], w: u64) -> bool
+        requires { Inside pool.now w }
+        ensures { result ≡ row_is (row_in pool.now w) (self.now.front % 256) self.now.args.now }
+    {
+        w % 65536 == self.front && same(rows::args_in(pool, w), self.args)
+    }
+}
+
+// The row among the first n with this key, whose bucket is b, by at most so many steps along its chain.
 // (Not over a RowIndex: enter_row seeks while the words and heads are being filled. Not a `for` over the rows of a chain: the iterator would be a type with
 // a law of its own, that links lead to lower rows and which rows a step passes, to say once more what the invariant says of the one loop that walks here.)
 fn seek(
@@ -113,11 +135,10 @@ fn seek(
     n: usize,
     b: usize,
     most: usize,
-    key: u64,
-    args: &[u16],
+    key: &Key,
 ) -> Result<Option<usize>, Crowded>
-    requires { Seeking pool.now words.now heads.now n b key args.now }
-    ensures { SoughtRow (found_by (row_held pool.now words.now) n (key % 256) args.now) most n result }
+    requires { Seeking pool.now words.now heads.now n b key.now.front key.now.args.now }
+    ensures { SoughtRow (found_by (row_held pool.now words.now) n (key.now.front % 256) key.now.args.now) most n result }
 {
     let mut p = usize::from(heads[b]);
     let mut steps = 0;
@@ -126,7 +147,7 @@ fn seek(
             return Err(Crowded);
         }
         let w = words[p - 1];
-        if row_is(pool, w, key, args) {
+        if key.row_is(pool, w) {
             return Ok(Some(p - 1));
         }
         p = rows::next_in(w);
@@ -153,19 +174,9 @@ impl<'a> RowIndex<'a> {
             return None;
         }
         let Rows { pool, words } = self.rows;
-        let key = u64::from(symbol) + args.len() as u64 * 256;
-        let b = hash(self.by, self.heads.len(), key, args);
-        seek(
-            pool,
-            words,
-            self.heads,
-            words.len(),
-            b,
-            ANY_LENGTH,
-            key,
-            args,
-        )
-        .unwrap()
+        let key = Key::new(symbol, args);
+        let b = key.bucket(self.by, self.heads.len());
+        seek(pool, words, self.heads, words.len(), b, ANY_LENGTH, &key).unwrap()
     }
 }
 
@@ -193,13 +204,12 @@ pub fn enter_row(
     ensures { EnteredRow by most pool.now words.old heads.old words.new heads.new
         n row.now.symbol row.now.target row.now.from row.now.args.now result }
 {
-    let count = row.args.len();
-    let key = u64::from(row.symbol) + count as u64 * 256;
-    let b = hash(by, heads.len(), key, row.args);
-    if seek(pool, words, heads, n, b, most, key, row.args)?.is_some() {
+    let key = Key::new(row.symbol, row.args);
+    let b = key.bucket(by, heads.len());
+    if seek(pool, words, heads, n, b, most, &key)?.is_some() {
         return Err(TakeError::Refused(Refusal::new(Kind::RepeatedRow, n)));
     }
-    words[n] = rows::word(row.symbol, count, row.target, row.from, heads[b]);
+    words[n] = rows::word(row.symbol, row.args.len(), row.target, row.from, heads[b]);
     heads[b] = (n + 1) as u16;
     Ok(())
 }

@@ -28,7 +28,7 @@ pub loop-p-preserved : goal.loop-p-preserved
 loop-p-preserved c = let low : c.loop-p.p - 1 < c.args.n = omega (arith, c.loop-p.invariant.0, c.loop-p-test.true) in let link : c.next_in-p.result ≤ c.loop-p.p - 1 = omega (arith, c.next_in-p.ensures, next_at c.args.words.now (c.loop-p.p - 1) (omega (arith, low, c.requires.held.long)), (c.requires.index.chains.next_link (c.loop-p.p - 1) (low)).within) in
     let told = sym c.row_is.ensures ∙ c.if-row_is.false in
     let e = c.next_in-p.ensures ∙ sym (next_at c.args.words.now (c.loop-p.p - 1) (omega (arith, low, c.requires.held.long))) in
-    (omega (arith, link, c.loop-p.invariant.0, c.loop-p-test.true), λ s. rw e (walk_goes _ _ _ (row_bucket_lem (row_held c.args.pool.now c.args.words.now) s.by (length c.args.heads.now) c.args.key c.args.args.now _ s.bucket s.counts) s.index.chains c.loop-p.p (c.loop-p.invariant.1 s) c.loop-p-test.true told))
+    (omega (arith, link, c.loop-p.invariant.0, c.loop-p-test.true), λ s. rw e (walk_goes _ _ _ (row_bucket_lem (row_held c.args.pool.now c.args.words.now) s.by (length c.args.heads.now) c.args.key.now.front c.args.key.now.args.now _ s.bucket s.counts) s.index.chains c.loop-p.p (c.loop-p.invariant.1 s) c.loop-p-test.true told))
 
 pub returns : goal.returns
 returns c = sought_nowhere _ _ _ (walk_ends _ _ _ c.loop-p.p (c.loop-p.invariant.1 c.requires) c.loop-p-test.false)

@@ -10,7 +10,7 @@ use Rattle.index.proofs.seek.Given as goal
 abbrev pub invariant-loop-p : goal.invariant-loop-p
 invariant-loop-p l =
     (l.steps + l.p ≤ l.n)
-    × ((s : Seeking l.pool l.words l.heads l.n l.b l.key l.args) → Walk (bucket (row_held l.pool l.words) s.by (length l.heads) l.key l.args) (sought (row_held l.pool l.words) s.by (length l.heads) l.key l.args) l.b l.n l.p)
+    × ((s : Seeking l.pool l.words l.heads l.n l.b l.key.front l.key.args.now) → Walk (bucket (row_held l.pool l.words) s.by (length l.heads) l.key.front l.key.args.now) (sought (row_held l.pool l.words) s.by (length l.heads) l.key.front l.key.args.now) l.b l.n l.p)
 
 abbrev pub decreases-loop-p : goal.decreases-loop-p
 decreases-loop-p l = l.p

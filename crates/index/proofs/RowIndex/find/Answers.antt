@@ -1,4 +1,3 @@
-use native.Mathlib.Omega.{arith}
 use Rattle.index.proofs.Laws.{too_long, too_high, index_words}
 use Rattle.index.proofs.RowIndex.find.Goals.{then-args-gt16-via-then-args-gt16, then-args-gt16-via-else-args-gt16+then-symbol-gt255}
 use Rattle.index.proofs.RowIndex.find.Goals as goal
@@ -15,7 +14,7 @@ seek-requires c =
       by = c.args.self.now.by;
       held = c.args.self.now.rows.held;
       index = index_words c.args.self.now.rows.pool.now c.args.self.now.rows.words.now c.args.self.now.index;
-      inside = c.hash-b.ensures.1;
-      bucket = c.hash-b.ensures.0;
-      counts = omega (arith, c.from.ensures, c.if-symbol-gt255.false);
+      inside = c.bucket-b.ensures.1;
+      bucket = c.bucket-b.ensures.0;
+      counts = c.new-key.result.counted;
     }

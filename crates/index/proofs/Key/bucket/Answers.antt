@@ -2,7 +2,7 @@
 use Rattle.std.proofs.Common.{ap, ◌∙◌}
 use Rattle.index.specs.Hash.{hash_of, spread_over}
 use Rattle.index.proofs.Hashing.{behind_four, fours_step, spread_below}
-use Rattle.index.proofs.hash.Goals as goal
+use Rattle.index.proofs.Key.bucket.Goals as goal
 
 pub loop-left-preserved : goal.loop-left-preserved
 loop-left-preserved c =
