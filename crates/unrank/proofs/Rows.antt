@@ -1,26 +1,23 @@
 -- The row in which a value falls, by the sums along the chain of its state's rows. Assumes nothing.
 use Prim.Native.Nat.{ℕ, zero, suc, ◌-◌, ◌<◌, ◌≤◌}
 use mathlib.Core.Path.{◌≡◌, refl, sym, ◌∙◌}
-use mathlib.Core.Bool.{true}
 use mathlib.Core.List.{List, map}
 use native.Mathlib.Omega.{arith}
 use lib.ListN.{length, get_or}
 use Rattle.model.specs.Table.{Row}
 use Rattle.model.specs.Count.{sum, weight}
 use Rattle.model.specs.Value.{earlier_rows, find_by}
-use Rattle.model.specs.Used.{is_used}
 use Rattle.model.proofs.Counting.{get_d_map, sum_take_suc}
 use Rattle.model.proofs.Values.{find_at}
-use Rattle.rows.specs.Words.{after_in, rows_in, held_table}
+use Rattle.rows.specs.Words.{after_in, rows_in}
 use Rattle.rows.proofs.Words.{rows_long}
 use Rattle.counts.specs.Chain.{target, leads, TargetLink}
 use Rattle.counts.specs.States.{held}
 use Rattle.counts.proofs.Chain.{leads_row, leads_end}
 use Rattle.counts.proofs.States.{earlier_skip, earlier_more, all_earlier}
 use Rattle.unrank.specs.declared.Entered.{Entered}
-use Rattle.unrank.specs.UnrankReady.{ValueReady}
 use Rattle.unrank.specs.Trees.{Opening, opened_at, Enters}
-use Rattle.unrank.proofs.UnrankReady.{used_here, state_held, sum_held}
+use Rattle.unrank.proofs.ValueReady.{ValueReady}
 
 -- what the rows of q before row i count together
 abbrev before : (rows : List Row) (counts : List ℕ) (q i : ℕ) → ℕ
@@ -54,28 +51,16 @@ module _ {pool words first counts sums : List ℕ} {q value : ℕ} (x : ValueRea
   many : n ≡ length words
   many = rows_long pool words
 
-  used : is_used (held_table x.states pool words x.accepting) q ≡ true
-  used = used_here x.ready q value x.less
-
   -- all rows of the state together count more than the value
   all_above : value < before rows counts q n
-  all_above = omega (arith, all_earlier rows (held counts) q, state_held x.ready q used, x.less)
-
-  pub state_few : q < 256
-  state_few = omega (arith, x.ready.few, x.state)
+  all_above = omega (arith, all_earlier rows (held counts) q, x.together, x.less)
 
   pub rows_few : length words ≤ 1024
-  rows_few = x.ready.rows_held.many
-
-  pub counts_place : q < length counts
-  counts_place = omega (arith, x.ready.counts_room, x.state)
-
-  pub first_place : q < length first
-  first_place = omega (arith, x.ready.first_room, x.state)
+  rows_few = x.rows_held.many
 
   -- the sum before a row of the state
   sum_is : (r : ℕ) → r < n → target rows r ≡ q → get_or sums r 0 ≡ before rows counts q r
-  sum_is r l e = sum_held x.ready q used r l e
+  sum_is r l e = x.summed r l e
 
   -- a link of the state that leads to a row
   module _ {m p : ℕ} (l : TargetLink rows q m n p) where
@@ -99,7 +84,7 @@ module _ {pool words first counts sums : List ℕ} {q value : ℕ} (x : ValueRea
     none_left z = rw (z, leads_end n) at passed
 
   first_link : TargetLink rows q 0 n (get_or first q 0)
-  first_link = x.ready.chained.firsts q first_place
+  first_link = x.chained.firsts q x.first_place
 
   -- the state has a row
   pub some_row : 0 < get_or first q 0
@@ -116,7 +101,7 @@ module _ {pool words first counts sums : List ℕ} {q value : ℕ} (x : ValueRea
   first_inside = rw many at (link_inside first_link some_row)
 
   after_link : (r : ℕ) → r < n → target rows r ≡ q → TargetLink rows q (suc r) n (after_in (get_or words r 0))
-  after_link r l e = rw (get_d_map after_in words r 0 0 (rw many at l), e) at (x.ready.chained.afters r (omega arith) l)
+  after_link r l e = rw (get_d_map after_in words r 0 0 (rw many at l), e) at (x.chained.afters r (omega arith) l)
 
   pub walk_begins : Walking rows counts q value first_row (after_in (get_or words first_row 0))
   walk_begins =
@@ -142,7 +127,7 @@ module _ {pool words first counts sums : List ℕ} {q value : ℕ} (x : ValueRea
   opens : (r end : ℕ) → r < n → target rows r ≡ q → before rows counts q r ≤ value → value < end → Opening words sums r end value
   opens r end l e b less =
       let s = sum_is r l e in
-      record { inside = rw many at l; summed = omega (arith, many, x.ready.sums_room); ends = omega arith; begins = omega arith }
+      record { inside = rw many at l; summed = omega (arith, many, x.sums_room); ends = omega arith; begins = omega arith }
 
   module _ {r p : ℕ} (w : Walking rows counts q value r p) where
     -- the next row is beyond the value
@@ -151,7 +136,7 @@ module _ {pool words first counts sums : List ℕ} {q value : ℕ} (x : ValueRea
       next_inside = rw many at (link_inside w.link pos)
 
       pub next_summed : p - 1 < length sums
-      next_summed = omega (arith, next_inside, x.ready.sums_room)
+      next_summed = omega (arith, next_inside, x.sums_room)
 
       next_sum : get_or sums (p - 1) 0 ≡ before rows counts q (suc r)
       next_sum = sum_is (p - 1) (link_inside w.link pos) (link_mine w.link pos) ∙ link_passed w.link pos
@@ -177,7 +162,7 @@ module _ {pool words first counts sums : List ℕ} {q value : ℕ} (x : ValueRea
       last_sum : held counts q ≡ before rows counts q (suc r)
       last_sum =
           let z : p ≡ 0 = omega arith in
-          state_held x.ready q used ∙ sym (all_earlier rows (held counts) q) ∙ none_left w.link z
+          x.together ∙ sym (all_earlier rows (held counts) q) ∙ none_left w.link z
 
       pub opens_last : Opening words sums r (held counts q) value
       opens_last = opens r _ w.inside w.mine w.begins x.less
