@@ -107,7 +107,7 @@ emptying_ends {words} {p = p} x le =
 -- ---- the states in turn
 
 -- the states before q are cleared where they have no mark
-pub record Clearing (states : ℕ) (words used cs₀ cs ss₀ ss : List ℕ) (q : ℕ) : Type 0 where
+pub record Clearing (states : ℕ) (words : List ℕ) (used : List Bool) (cs₀ cs ss₀ ss : List ℕ) (q : ℕ) : Type 0 where
   pub within : q ≤ states
   pub cs_long : length cs ≡ length cs₀
   pub sums_long : length ss ≡ length ss₀
@@ -116,7 +116,7 @@ pub record Clearing (states : ℕ) (words used cs₀ cs ss₀ ss : List ℕ) (q 
   pub sums : (k : ℕ) → k < length words → target_at words k < q → get_or ss k 0 ≡ (if is_set used (target_at words k) then get_or ss₀ k 0 else 0)
   pub later_sums : (k : ℕ) → k < length words → q ≤ target_at words k → get_or ss k 0 ≡ get_or ss₀ k 0
 
-pub clearing_begins : (states : ℕ) (words used cs ss : List ℕ) → Clearing states words used cs cs ss ss 0
+pub clearing_begins : (states : ℕ) (words : List ℕ) (used : List Bool) (cs ss : List ℕ) → Clearing states words used cs cs ss ss 0
 clearing_begins states words used cs ss = record {
   within = omega arith;
   cs_long = refl;
@@ -127,7 +127,7 @@ clearing_begins states words used cs ss = record {
   later_sums = λ k i l. refl;
 }
 
-module _ {states : ℕ} {words first used cs₀ ss₀ : List ℕ} (g : ClearReady states words first used cs₀ ss₀) where
+module _ {states : ℕ} {words first : List ℕ} {used : List Bool} {cs₀ ss₀ : List ℕ} (g : ClearReady states words first used cs₀ ss₀) where
   module _ {cs ss : List ℕ} {q : ℕ} (x : Clearing states words used cs₀ cs ss₀ ss q) where
     module _ (l : q < states) where
       pub mark_here : q < length used
@@ -140,8 +140,8 @@ module _ {states : ℕ} {words first used cs₀ ss₀ : List ℕ} (g : ClearRead
       rows_ready = record { pool = g.pool; chained = g.chained; state = omega (arith, g.first_room); sums_room = omega (arith, g.sums_room, x.sums_long) }
 
       -- a state without a mark
-      pub clearing_goes : (ss' : List ℕ) → get_or used q 0 ≡ 0 → RowsCleared words q ss ss' → Clearing states words used cs₀ (set cs q 0) ss₀ ss' (q + 1)
-      clearing_goes ss' z y = record {
+      pub clearing_goes : (ss' : List ℕ) → is_set used q ≡ false → RowsCleared words q ss ss' → Clearing states words used cs₀ (set cs q 0) ss₀ ss' (q + 1)
+      clearing_goes ss' unset y = record {
         within = omega arith;
         cs_long = length-set cs q 0 ∙ x.cs_long;
         sums_long = y.long ∙ x.sums_long;
@@ -151,9 +151,6 @@ module _ {states : ℕ} {words first used cs₀ ss₀ : List ℕ} (g : ClearRead
         later_sums = λ k i j. y.others k (λ e. omega arith) ∙ x.later_sums k i (omega arith);
       }
         where
-          unset : is_set used q ≡ false
-          unset = ap (ltb 0) z
-
           count : (a : ℕ) → a < q + 1 → Dec (q ≤ a) → held (set cs q 0) a ≡ (if is_set used a then held cs₀ a else 0)
           count a i (yes h) = let e : a ≡ q = omega arith in rw e (get_or-set_same cs q 0 0 count_here ∙ sym (if_no (is_set used q) (held cs₀ q) 0 unset))
           count a i (no h) = get_or-set_other cs q a 0 0 (λ e. omega arith) ∙ x.counts a (omega arith)
@@ -165,8 +162,8 @@ module _ {states : ℕ} {words first used cs₀ ss₀ : List ℕ} (g : ClearRead
           sum k i j (no h) = y.others k (λ e. omega arith) ∙ x.sums k i (omega arith)
 
       -- a marked one
-      pub clearing_keeps : (get_or used q 0 ≡ 0 → ⊥) → Clearing states words used cs₀ cs ss₀ ss (q + 1)
-      clearing_keeps ne = record {
+      pub clearing_keeps : is_set used q ≡ true → Clearing states words used cs₀ cs ss₀ ss (q + 1)
+      clearing_keeps marked = record {
         within = omega arith;
         cs_long = x.cs_long;
         sums_long = x.sums_long;
@@ -176,9 +173,6 @@ module _ {states : ℕ} {words first used cs₀ ss₀ : List ℕ} (g : ClearRead
         later_sums = λ k i j. x.later_sums k i (omega arith);
       }
         where
-          marked : is_set used q ≡ true
-          marked = lt-ltb 0 (get_or used q 0) (pos_of_ne-zero ne)
-
           count : (a : ℕ) → a < q + 1 → Dec (q ≤ a) → held cs a ≡ (if is_set used a then held cs₀ a else 0)
           count a i (yes h) = let e : a ≡ q = omega arith in rw e (x.later q (omega arith) ∙ sym (if_yes (is_set used q) (held cs₀ q) 0 marked))
           count a i (no h) = x.counts a (omega arith)

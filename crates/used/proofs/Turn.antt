@@ -59,7 +59,7 @@ factor_some c (x ∷ xs) (suc k) l p = factor_some c xs k (omega arith) (go (eq-
 
 -- ---- the rows before the one that the link leads to are taken, and the states below n that have trees are marked
 
-pub record Taking (rows : List Row) (cs : List ℕ) (q : ℕ) (old used : List ℕ) (n p : ℕ) : Type 0 where
+pub record Taking (rows : List Row) (cs : List ℕ) (q : ℕ) (old used : List Bool) (n p : ℕ) : Type 0 where
   pub at_row : AtRow rows q p
   pub marked : MarkedToo (λ a. any_below (leads p (length rows)) (named_row rows cs q a)) old used
   pub passed : AllMarked cs used n
@@ -72,7 +72,7 @@ module _ (rows : List Row) (cs : List ℕ) (q : ℕ) where
       none : (k : ℕ) → i ≤ k → k < leads p (length rows) → named_row rows cs q a k ≡ false
       none k l m = rw (ne_eqb (target rows k) q (t.gap k l m))
 
-  taking_begins : (used : List ℕ) (n p : ℕ) → AllMarked cs used n → n ≤ q → TargetLink rows q 0 (length rows) p → Taking rows cs q used used n p
+  taking_begins : (used : List Bool) (n p : ℕ) → AllMarked cs used n → n ≤ q → TargetLink rows q 0 (length rows) p → Taking rows cs q used used n p
   taking_begins used n p s l t = record {
     at_row = at_link p t;
     marked = record { long = refl; each = λ a. or_none (is_set used a) ∙ ap (λ (b : Bool). is_set used a || b) (sym (skip 0 p a t ∙ any_zero (named_row rows cs q a))) };
@@ -80,7 +80,7 @@ module _ (rows : List Row) (cs : List ℕ) (q : ℕ) where
     low = l;
   }
 
-  taking_goes : (old used used' : List ℕ) (n n' p p' : ℕ) → Taking rows cs q old used n p → 0 < p → MarkedToo (row_names cs (row_no rows (p - 1)).args) used used'
+  taking_goes : (old used used' : List Bool) (n n' p p' : ℕ) → Taking rows cs q old used n p → 0 < p → MarkedToo (row_names cs (row_no rows (p - 1)).args) used used'
       → AllMarked cs used' n' → n' ≤ q → TargetLink rows q (suc (p - 1)) (length rows) p' → Taking rows cs q old used' n' p'
   taking_goes old used used' n n' p p' x l m s le t = record {
     at_row = at_link p' t;
@@ -98,7 +98,7 @@ module _ (rows : List Row) (cs : List ℕ) (q : ℕ) where
     low = le;
   }
 
-  pub taking_ends : (old used : List ℕ) (n p : ℕ) → Taking rows cs q old used n p → p ≤ 0 → Turned rows cs q old used n
+  pub taking_ends : (old used : List Bool) (n p : ℕ) → Taking rows cs q old used n p → p ≤ 0 → Turned rows cs q old used n
   taking_ends old used n p x l =
       let z : p ≡ 0 = omega arith in
       record {
@@ -121,7 +121,7 @@ module _ (rows : List Row) (cs : List ℕ) (q : ℕ) where
         rw (← z.2) (factor_some (held cs) (row_no rows r).args z.0 z.1 (ltb-true 0 (product (map (held cs) (row_no rows r).args)) y.1)),
       )
 
-  pub turn_enough : (old used : List ℕ) (n p : ℕ) → ((r : ℕ) → r < length rows → target rows r ≡ q → Placed q (row_no rows r).args)
+  pub turn_enough : (old used : List Bool) (n p : ℕ) → ((r : ℕ) → r < length rows → target rows r ≡ q → Placed q (row_no rows r).args)
       → Taking rows cs q old used n p → q ≤ n → Turned rows cs q old used n
   turn_enough old used n p lower t le =
       record {
@@ -148,7 +148,7 @@ module _ (rows : List Row) (cs : List ℕ) (q : ℕ) where
 
 -- ---- as the code has it
 
-module _ {pool words first cs old : List ℕ} {low q : ℕ} (held_rows : Held pool words (length words))
+module _ {pool words first cs : List ℕ} {old : List Bool} {low q : ℕ} (held_rows : Held pool words (length words))
     (chained : Chained (rows_in pool words) first (afters words)) (g : TurnReady (rows_in pool words) first cs old low q) where
   abbrev rows : List Row
   rows = rows_in pool words
@@ -156,7 +156,7 @@ module _ {pool words first cs old : List ℕ} {low q : ℕ} (held_rows : Held po
   pub turn_begins : (p : ℕ) → p ≡ get_or first q 0 → Taking rows cs q old old low p
   turn_begins p e = taking_begins rows cs q old low p g.passed.passed g.passed.low (rw e (chained.firsts q g.state))
 
-  module _ {used : List ℕ} {n p : ℕ} (x : Taking rows cs q old used n p) where
+  module _ {used : List Bool} {n p : ℕ} (x : Taking rows cs q old used n p) where
     pub turn_stops : q ≤ n → Turned rows cs q old used n
     turn_stops le = turn_enough rows cs q old used n p g.lower x le
 
@@ -183,7 +183,7 @@ module _ {pool words first cs old : List ℕ} {low q : ℕ} (held_rows : Held po
           marked = record { placed = λ k l. omega (arith, placed.placed k l, g.passed.room, x.marked.long) };
         }
 
-        module _ (used' : List ℕ) (m : MarkedToo (row_names cs args) used used') where
+        module _ (used' : List Bool) (m : MarkedToo (row_names cs args) used used') where
           pub look_ready : PassedBy cs used' n q
           look_ready = record {
             passed = marked_stays cs used used' n (row_names cs args) m x.passed;

@@ -35,36 +35,36 @@ fn none_empty(counts: &[u64]) -> bool
 
 // Marks the states of a list.
 // (Beside mark_listed: one function for both would take the test as a closure, longer than the loop that it saves.)
-fn mark_args(args: &[u16], used: &mut [u8])
+fn mark_args(args: &[u16], used: &mut [bool])
     requires { Placed (length used.old) args.now }
     ensures { MarkedToo (λ q. is_among q args.now) used.old used.new }
 {
     for a in args {
-        used[usize::from(*a)] = 1;
+        used[usize::from(*a)] = true;
     }
 }
 
 // Marks the listed states that have trees.
 #[tactic(auto, using(crate::proofs::Marks::listed_begin, crate::proofs::Marks::listed_skip, crate::proofs::Marks::listed_go, crate::proofs::Marks::listed_end))]
-fn mark_listed(accepting: &[u16], counts: &[u64], used: &mut [u8])
+fn mark_listed(accepting: &[u16], counts: &[u64], used: &mut [bool])
     requires { RowPlaced accepting.now counts.now used.old }
     ensures { MarkedToo (listed_by accepting.now counts.now) used.old used.new }
 {
     for a in accepting {
         let q = usize::from(*a);
         if counts[q] != 0 {
-            used[q] = 1;
+            used[q] = true;
         }
     }
 }
 
 // The first state from `low` on, and below m, that has trees and no mark; or m.
-fn pass_marked(counts: &[u64], used: &[u8], low: usize, m: usize) -> usize
+fn pass_marked(counts: &[u64], used: &[bool], low: usize, m: usize) -> usize
     requires { PassedBy counts.now used.now low m }
     ensures { AllMarked counts.now used.now result × (result ≤ m) }
 {
     for n in low..m {
-        if counts[n] != 0 && used[n] == 0 {
+        if counts[n] != 0 && !used[n] {
             return n;
         }
     }
@@ -90,7 +90,7 @@ impl Counts<'_> {
     }
 
     // Marks the arguments of a row, if it counts more than 0.
-    fn mark_row(&self, args: &[u16], used: &mut [u8])
+    fn mark_row(&self, args: &[u16], used: &mut [bool])
         requires { RowPlaced args.now self.now.counts.now used.old }
         ensures { MarkedToo (row_names self.now.counts.now args.now) used.old used.new }
     {
@@ -101,7 +101,7 @@ impl Counts<'_> {
 
     // Marks the arguments of the rows of state q that count more than 0, up to the row after which every state below q that has trees is
     // marked.
-    fn mark_rows(&self, by_target: &ByTarget, used: &mut [u8], low: usize, q: usize) -> usize
+    fn mark_rows(&self, by_target: &ByTarget, used: &mut [bool], low: usize, q: usize) -> usize
         requires { TurnReady (rows_in by_target.now.rows.pool.now by_target.now.rows.words.now) by_target.now.first.now
             self.now.counts.now used.old low q }
         ensures { Turned (rows_in by_target.now.rows.pool.now by_target.now.rows.words.now) self.now.counts.now q
@@ -131,7 +131,7 @@ pub fn find_used(
     accepting: &[u16],
     by_target: &ByTarget,
     counts: &[u64],
-    used: &mut [u8],
+    used: &mut [bool],
 )
     requires { PassReady states by_target.now.rows.pool.now accepting.now by_target.now.rows.words.now by_target.now.first.now
         counts.now used.old }
@@ -148,7 +148,7 @@ pub fn find_used(
         if m < n {
             break;
         }
-        if used[m] != 0 {
+        if used[m] {
             n = known.mark_rows(by_target, used, n, m);
         }
     }
@@ -181,13 +181,13 @@ fn first_place(states: usize, marks: &[u64]) -> usize
 }
 
 // The first used state from `from` on that is beyond a limit, where no state before that is.
-pub fn first_fault(states: usize, marks: &[u64], used: &[u8], from: usize) -> Option<(usize, Kind)>
+pub fn first_fault(states: usize, marks: &[u64], used: &[bool], from: usize) -> Option<(usize, Kind)>
     requires { FaultReady states marks.now used.now from }
     ensures { FirstUsed states marks.now used.now result }
 {
     let mut q = from;
     while let Some((a, kind)) = first_beyond(states, marks, q) {
-        if used[a] != 0 {
+        if used[a] {
             return Some((a, kind));
         }
         q = a + 1;
@@ -213,7 +213,7 @@ pub fn clear_unused(
     states: usize,
     words: &[u64],
     first: &[u16],
-    used: &[u8],
+    used: &[bool],
     counts: &mut [u64],
     sums: &mut [u64],
 )
@@ -221,7 +221,7 @@ pub fn clear_unused(
     ensures { Cleared states words.now used.now counts.old counts.new sums.old sums.new }
 {
     for q in 0..states {
-        if used[q] == 0 {
+        if !used[q] {
             counts[q] = 0;
             clear_rows(words, first, sums, q);
         }
@@ -236,7 +236,7 @@ fn settle_used(
     by_target: &ByTarget,
     counts: &mut [u64],
     marks: &[u64],
-    used: &mut [u8],
+    used: &mut [bool],
     sums: &mut [u64],
     from: usize,
 ) -> Result<(), Refusal>
@@ -269,7 +269,7 @@ pub fn settle(
     by_target: &ByTarget,
     counts: &mut [u64],
     marks: &[u64],
-    used: &mut [u8],
+    used: &mut [bool],
     sums: &mut [u64],
 ) -> Result<(), Refusal>
     requires { SettleReady states by_target.now.rows.pool.now accepting.now by_target.now.rows.words.now by_target.now.first.now
