@@ -5,22 +5,21 @@ use mathlib.Core.Path.{◌≡◌, refl, sym, ap, ◌∙◌}
 use mathlib.Core.Bool.{Bool, true, false}
 use mathlib.Core.List.{List}
 use native.Mathlib.Decide.{dec_le}
-use native.Mathlib.Nat.{pos_of_ne-zero}
 use native.Mathlib.Omega.{arith}
 use lib.ListN.{length, get_or, set, length-set}
 use lib.Seq.{get_or-set_same, get_or-set_other}
-use lib.Dec.{eqb, ltb}
-use borrow.Author.Tests.{lt-ltb, eqb-true, eqb-false}
+use lib.Dec.{eqb}
+use borrow.Author.Tests.{eqb-true, eqb-false}
 use Rattle.model.specs.Table.{Row}
 use Rattle.model.proofs.Choice.{if_yes, if_no}
-use Rattle.rows.specs.Words.{after_in, rows_in}
+use Rattle.rows.specs.Words.{rows_in}
 use Rattle.rows.proofs.Words.{rows_long}
-use Rattle.counts.specs.Chain.{leads, TargetLink}
+use Rattle.counts.specs.Chain.{leads, TargetLink, Comes}
 use Rattle.counts.specs.States.{held}
 use Rattle.counts.proofs.Chain.{leads_row, leads_end}
 use Rattle.used.specs.Marked.{is_set}
 use Rattle.used.specs.Settled.{target_at, RowsChained, RowsCleared, ClearReady, Cleared}
-use Rattle.used.proofs.Walk.{AtRow, at_link, target_word, link_next, link_further}
+use Rattle.used.proofs.Walk.{AtRow, at_link, target_word, link_next}
 
 -- ---- the rows of one state
 
@@ -69,38 +68,31 @@ module _ {words first sums₀ : List ℕ} {q : ℕ} (g : RowsChained words first
       link : TargetLink (rows_in g.pool words) q 0 (length (rows_in g.pool words)) p
       link = rw e (g.chained.firsts q g.state)
 
-  module _ {sums : List ℕ} {p : ℕ} (x : Emptying words q sums₀ sums p) (pos : 0 < p) where
-    pub word_here : p - 1 < length words
-    word_here = x.at_word.inside pos
+  module _ {sums : List ℕ} {p r word p' : ℕ} (x : Emptying words q sums₀ sums p) (c : Comes words p r word p') where
+    sum_here : r < length sums
+    sum_here = omega (arith, c.inside, x.long, g.sums_room)
 
-    pub sum_here : p - 1 < length sums
-    sum_here = omega (arith, word_here, x.long, g.sums_room)
+    link : TargetLink (rows_in g.pool words) q (suc r) (length (rows_in g.pool words)) p'
+    link = link_next g.pool words g.chained (from_word g.pool words q p x.at_word) c
 
-    link : (p' : ℕ) → p' ≡ after_in (get_or words (p - 1) 0) → TargetLink (rows_in g.pool words) q (suc (p - 1)) (length (rows_in g.pool words)) p'
-    link = link_next g.pool words g.chained (from_word g.pool words q p x.at_word) pos
-
-    pub emptying_further : (p' : ℕ) → p' ≡ after_in (get_or words (p - 1) 0) → length words - leads p' (length words) < length words - leads p (length words)
-    emptying_further p' e = rw (rows_long g.pool words) at (link_further g.pool words g.chained (from_word g.pool words q p x.at_word) pos p' e)
-
-    pub emptying_goes : (p' : ℕ) → p' ≡ after_in (get_or words (p - 1) 0) → Emptying words q sums₀ (set sums (p - 1) 0) p'
-    emptying_goes p' e = record {
-      at_word = to_word g.pool words q p' (at_link p' (link p' e));
-      long = length-set sums (p - 1) 0 ∙ x.long;
-      own = λ k l h. own k l h (eqb k (p - 1)) (eqb-true k (p - 1)) (eqb-false k (p - 1));
-      others = λ k ne. get_or-set_other sums (p - 1) k 0 0 (λ z. ne (ap (target_at words) z ∙ x.at_word.mine pos)) ∙ x.others k ne;
+    pub emptying_goes : Emptying words q sums₀ (set sums r 0) p'
+    emptying_goes = record {
+      at_word = to_word g.pool words q p' (at_link p' link);
+      long = length-set sums r 0 ∙ x.long;
+      own = λ k l h. own k l h (eqb k r) (eqb-true k r) (eqb-false k r);
+      others = λ k ne. get_or-set_other sums r k 0 0 (λ z. ne (ap (target_at words) (z ∙ c.here.1) ∙ x.at_word.mine c.here.0)) ∙ x.others k ne;
     }
       where
-        own : (k : ℕ) → k < leads p' (length words) → target_at words k ≡ q → (b : Bool) → (b ≡ true → k ≡ p - 1) → (b ≡ false → k ≡ p - 1 → ⊥) → get_or (set sums (p - 1) 0) k 0 ≡ 0
-        own k l h true y n = let z : k ≡ p - 1 = y refl in rw z (get_or-set_same sums (p - 1) 0 0 sum_here)
-        own k l h false y n = get_or-set_other sums (p - 1) k 0 0 (n refl) ∙ x.own k (rw (leads_row p (length words) pos) (before (dec_le k (p - 1)))) h
+        own : (k : ℕ) → k < leads p' (length words) → target_at words k ≡ q → (b : Bool) → (b ≡ true → k ≡ r) → (b ≡ false → k ≡ r → ⊥) → get_or (set sums r 0) k 0 ≡ 0
+        own k l h true y n = let z : k ≡ r = y refl in rw z (get_or-set_same sums r 0 0 sum_here)
+        own k l h false y n = get_or-set_other sums r k 0 0 (n refl) ∙ x.own k (rw (leads_row p (length words) c.here.0 ∙ sym c.here.1) (before (dec_le k r))) h
           where
-            before : Dec (k ≤ p - 1) → k < p - 1
+            before : Dec (k ≤ r) → k < r
             before (yes le) = omega (arith, n refl)
-            before (no gt) = absurd (no_row g.pool words q (suc (p - 1)) p' k (link p' e) (omega arith) l h)
+            before (no gt) = absurd (no_row g.pool words q (suc r) p' k link (omega arith) l h)
 
-pub emptying_ends : {words sums₀ sums : List ℕ} {q p : ℕ} → Emptying words q sums₀ sums p → p ≤ 0 → RowsCleared words q sums₀ sums
-emptying_ends {words} {p = p} x le =
-    let z : p ≡ 0 = omega arith in
+pub emptying_ends : {words sums₀ sums : List ℕ} {q p : ℕ} → Emptying words q sums₀ sums p → p ≡ 0 → RowsCleared words q sums₀ sums
+emptying_ends {words} {p = p} x z =
     let e : leads p (length words) ≡ length words = ap (λ (v : ℕ). leads v (length words)) z ∙ leads_end (length words) in
     record { long = x.long; own = λ k l h. x.own k (rw e l) h; others = x.others }
 

@@ -5,15 +5,14 @@ ghost use Rattle.std.specs.Prelude.{◌≡◌, ◌<◌, ◌≤◌, true, map, le
 ghost use Rattle.std.proofs.Props.{props};
 ghost use Rattle.model.specs.Count.{product};
 ghost use Rattle.model.specs.Reach.{is_among};
-ghost use Rattle.rows.specs.Words.{rows_in};
+ghost use Rattle.rows.specs.Listed.{all_rows};
 ghost use Rattle.counts.specs.States.{held};
 ghost use Rattle.used.specs.Marked.{Placed, NoneEmpty, MarkedToo, RowPlaced, row_names, listed_by, AllMarked, PassedBy, TurnReady, Turned, PassReady, FoundUsed};
 ghost use Rattle.used.specs.Limits.{BeyondFrom, FaultFrom, FaultReady, FirstUsed};
 ghost use Rattle.used.specs.Settled.{RowsChained, RowsCleared, ClearReady, Cleared, SettleReady, Settled};
 
-use counts::ByTarget;
+use counts::{ByTarget, RowsOfState};
 use model::{Kind, Refusal};
-use rows::Rows;
 
 // The most entries that a state's longest tree may have.
 const LENGTH_LIMIT: u64 = 4096;
@@ -102,23 +101,19 @@ impl Counts<'_> {
     // Marks the arguments of the rows of state q that count more than 0, up to the row after which every state below q that has trees is
     // marked.
     fn mark_rows(&self, by_target: &ByTarget, used: &mut [bool], low: usize, q: usize) -> usize
-        requires { TurnReady (rows_in by_target.now.rows.pool.now by_target.now.rows.words.now) by_target.now.first.now
+        requires { TurnReady (all_rows by_target.now.rows) by_target.now.first.now
             self.now.counts.now used.old low q }
-        ensures { Turned (rows_in by_target.now.rows.pool.now by_target.now.rows.words.now) self.now.counts.now q
+        ensures { Turned (all_rows by_target.now.rows) self.now.counts.now q
             used.old used.new result }
     {
-        let Rows { pool, words } = by_target.rows;
         let mut n = low;
-        let mut p = usize::from(by_target.first[q]);
-        while 0 < p {
+        for (_, word) in by_target.rows_of(q) {
             if q <= n {
                 return n;
             }
-            let word = words[p - 1];
-            let args = rows::args_in(pool, word);
+            let args = rows::args_in(by_target.rows.pool, word);
             self.mark_row(args, used);
             n = pass_marked(self.counts, used, n, q);
-            p = rows::after_in(word);
         }
         n
     }
@@ -181,7 +176,12 @@ fn first_place(states: usize, marks: &[u64]) -> usize
 }
 
 // The first used state from `from` on that is beyond a limit, where no state before that is.
-pub fn first_fault(states: usize, marks: &[u64], used: &[bool], from: usize) -> Option<(usize, Kind)>
+pub fn first_fault(
+    states: usize,
+    marks: &[u64],
+    used: &[bool],
+    from: usize,
+) -> Option<(usize, Kind)>
     requires { FaultReady states marks.now used.now from }
     ensures { FirstUsed states marks.now used.now result }
 {
@@ -201,10 +201,12 @@ fn clear_rows(words: &[u64], first: &[u16], sums: &mut [u64], q: usize)
     requires { RowsChained words.now first.now sums.old q }
     ensures { RowsCleared words.now q sums.old sums.new }
 {
-    let mut p = usize::from(first[q]);
-    while 0 < p {
-        sums[p - 1] = 0;
-        p = rows::after_in(words[p - 1]);
+    let rows = RowsOfState {
+        words,
+        next: usize::from(first[q]),
+    };
+    for (r, _) in rows {
+        sums[r] = 0;
     }
 }
 
