@@ -5,7 +5,7 @@ ghost use Rattle.std.specs.Prelude.{◌≡◌, ◌<◌, ◌≤◌, length};
 ghost use Rattle.rows.specs.Listed.{all_rows};
 ghost use Rattle.counts.specs.States.{held};
 ghost use Rattle.unrank.specs.UnrankReady.{WriteReady};
-ghost use Rattle.unrank.specs.Trees.{Opening, opened_at, Enters, Shared, child_of, value_entries, Wrote, spot_of};
+ghost use Rattle.unrank.specs.Trees.{Enters, Shared, child_of, value_entries, Wrote, spot_of};
 ghost use Rattle.unrank.specs.Written.{WroteNumber, WroteBelow};
 
 use counts::ByTarget;
@@ -73,35 +73,34 @@ impl<'a> TreeWriter<'a> {
         }
     }
 
-    // Row r as the row in which the value falls; `end` is the first value beyond the row.
-    fn enter_row(&self, r: usize, end: u64, value: u64) -> Entered
-        requires { Opening self.now.by_target.rows.words.now self.now.sums.now r end value }
-        ensures { result ≡ opened_at self.now.by_target.rows.words.now self.now.sums.now r end value }
-    {
-        Entered {
-            word: self.by_target.rows.words[r],
-            weight: end - self.sums[r],
-            rest: value - self.sums[r],
-        }
-    }
-
     // The row of state q in which the value falls, by the sums along the chain of the state's rows.
     fn find_row(&self, q: usize, value: u64) -> Entered
         requires { value < held self.now.counts.now q }
         ensures { Enters self.now.by_target.rows.pool.now self.now.by_target.rows.words.now self.now.counts.now q value result }
     {
-        let words = self.by_target.rows.words;
-        let mut r = usize::from(self.by_target.first[q]) - 1;
-        let mut p = rows::after_in(words[r]);
-        while 0 < p {
-            let end = self.sums[p - 1];
+        let mut rows = self.by_target.rows_of(q);
+        let Some((_, mut word)) = rows.next() else {
+            // a state that has a value has a row
+            unreachable!()
+        };
+        let mut begin = 0;
+        for (r, next) in rows {
+            let end = self.sums[r];
             if value < end {
-                return self.enter_row(r, end, value);
+                return Entered {
+                    word,
+                    weight: end - begin,
+                    rest: value - begin,
+                };
             }
-            r = p - 1;
-            p = rows::after_in(words[r]);
+            word = next;
+            begin = end;
         }
-        self.enter_row(r, self.counts[q], value)
+        Entered {
+            word,
+            weight: self.counts[q] - begin,
+            rest: value - begin,
+        }
     }
 
     // The child in state a, where w is the product of its count and those of the children after it, and h is what is left of the value for them.
