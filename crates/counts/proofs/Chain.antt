@@ -12,7 +12,7 @@ use Rattle.model.specs.Table.{Row}
 use Rattle.model.proofs.Counting.{get_d_map}
 use Rattle.rows.specs.Words.{with_after, target_in, next_in, after_in, row_in, rows_in, nexts, afters, Inside, Held}
 use Rattle.rows.proofs.Words.{map_set, next_kept, after_put, row_kept, inside_kept, rows_long, row_held_lem}
-use Rattle.counts.specs.Chain.{target, leads, TargetLink, ChainedFrom, Unchained, Chainable, ChainedRows}
+use Rattle.counts.specs.Chain.{target, leads, TargetLink, ChainedFrom, Chained, Onward, Comes, Unchained, Chainable, ChainedRows}
 
 -- a link that leads to a row is 1 more than its number
 pub leads_row : (p n : ℕ) → 0 < p → leads p n ≡ p - 1
@@ -31,6 +31,25 @@ leads_more r n = leads_row (r + 1) n (omega arith) ∙ (let e : r + 1 - 1 ≡ r 
 link_small : {rows : List Row} {q m n : ℕ} (p : ℕ) → TargetLink rows q m n p → p ≤ n
 link_small zero l = omega arith
 link_small {n = n} (suc p) l = omega (arith, l.inside (omega arith), leads_row (suc p) n (omega arith))
+
+-- the rows of a chain lie one behind the other: a walk along the links ends
+pub onward_shorter : {words : List ℕ} {p : ℕ} → Onward words p → (r p' : ℕ) → (1 ≤ p) × (r ≡ p - 1) → p' ≡ after_in (get_or words r 0)
+    → length words - leads p' (length words) < length words - leads p (length words)
+onward_shorter {words} {p} o r p' e f = rw f (omega (arith, e.0, e.1, o.inside, o.further r (omega (arith, e.0, e.1, o.inside)), leads_row p (length words) e.0))
+
+module _ (pool words : List ℕ) {first : List ℕ} (chained : Chained (rows_in pool words) first (afters words)) where
+  after_link : (r : ℕ) → r < length words → TargetLink (rows_in pool words) (target (rows_in pool words) r) (suc r) (length (rows_in pool words)) (after_in (get_or words r 0))
+  after_link r l = rw (get_d_map after_in words r 0 0 l) at (chained.afters r (omega arith) (rw (rows_long pool words) l))
+
+  pub chained_onward : (q p : ℕ) → q < length first → p ≡ get_or first q 0 → Onward words p
+  chained_onward q p l e = record {
+    inside = rw (e, ← rows_long pool words) (link_small (get_or first q 0) (chained.firsts q l));
+    further = λ r i. omega (arith, (after_link r i).from, rows_long pool words, ap (leads (after_in (get_or words r 0))) (rows_long pool words));
+    within = λ r i. omega (arith, link_small (after_in (get_or words r 0)) (after_link r i), rows_long pool words);
+  }
+
+pub comes_of : {ws words : List ℕ} {p r w p' : ℕ} {B : Type 0} → ws ≡ words → Comes ws p r w p' × B → Comes words p r w p'
+comes_of e g = rw e at g.0
 
 -- ---- one row more in front
 

@@ -15,9 +15,9 @@ use Rattle.model.specs.Table.{Row, no_row}
 use Rattle.model.specs.Count.{sum, product, largest, weight, row_longest, state_counts, state_longest}
 use Rattle.model.specs.Value.{earlier_rows}
 use Rattle.model.proofs.Counting.{get_d_map, sum_take_suc, largest_take_suc}
-use Rattle.rows.specs.Words.{after_in, args_in, rows_in, row_no, afters, Inside, Held}
+use Rattle.rows.specs.Words.{after_in, args_in, rows_in, row_no, afters}
 use Rattle.rows.proofs.Words.{rows_long, row_held_lem}
-use Rattle.counts.specs.Chain.{target, leads, TargetLink, Chained}
+use Rattle.counts.specs.Chain.{target, leads, TargetLink, Chained, Comes}
 use Rattle.counts.specs.Marks.{top, ceiling, long_ceiling}
 use Rattle.counts.specs.Kept.{Is}
 use Rattle.counts.specs.States.{held, held_whole, held_long, MarksTell, weight_by, Summed, Countable}
@@ -121,54 +121,60 @@ module _ (rows : List Row) (c l : ℕ → ℕ) (q : ℕ) where
     others = λ k ne. refl;
   }
 
-  module _ {sums₀ sums : List ℕ} {count : Option ℕ} {long p : ℕ} (s : Summing sums₀ sums count long p) (pos : 0 < p) (w k : Option ℕ) (long' p' : ℕ)
-      (row : Is w (product (map c (row_no rows (p - 1)).args))) (more : Is k (unwrap_or count ceiling + unwrap_or w ceiling))
-      (longest : long' ≡ max long (if ltb 0 (product (map c (row_no rows (p - 1)).args)) then 2 + sum (map l (row_no rows (p - 1)).args) else 0))
-      (t : TargetLink rows q (suc (p - 1)) (length rows) p') (places : length rows ≤ length sums₀) where
-    here : leads p (length rows) ≡ p - 1
-    here = leads_row p (length rows) pos
+  module _ {sums₀ sums : List ℕ} {count : Option ℕ} {long p : ℕ} (s : Summing sums₀ sums count long p) {r : ℕ} (here : (0 < p) × (r ≡ p - 1)) (w k : Option ℕ) (long' p' : ℕ)
+      (row : Is w (product (map c (row_no rows r).args))) (more : Is k (unwrap_or count ceiling + unwrap_or w ceiling))
+      (longest : long' ≡ max long (if ltb 0 (product (map c (row_no rows r).args)) then 2 + sum (map l (row_no rows r).args) else 0))
+      (t : TargetLink rows q (suc r) (length rows) p') (places : length rows ≤ length sums₀) where
+    led : leads p (length rows) ≡ r
+    led = leads_row p (length rows) here.0 ∙ sym here.1
 
-    counted_before : Is count (earlier_rows rows c q (p - 1))
-    counted_before = subst (λ (n : ℕ). Is count (earlier_rows rows c q n)) here s.counted
+    row_in : r < length rows
+    row_in = rw here.1 (s.inside here.0)
+
+    mine_in : target rows r ≡ q
+    mine_in = rw here.1 (s.mine here.0)
+
+    counted_before : Is count (earlier_rows rows c q r)
+    counted_before = subst (λ (n : ℕ). Is count (earlier_rows rows c q n)) led s.counted
 
     counted_more : Is k (earlier_rows rows c q (leads p' (length rows)))
     counted_more =
         subst (λ (n : ℕ). Is k n)
-        (sym (earlier_skip rows c q (suc (p - 1)) (leads p' (length rows)) t.from t.within t.gap ∙ earlier_more rows c q (p - 1) (s.inside pos) (s.mine pos)))
+        (sym (earlier_skip rows c q (suc r) (leads p' (length rows)) t.from t.within t.gap ∙ earlier_more rows c q r row_in mine_in))
         (kept_plus count w k _ _ counted_before row more)
 
     measured_more : long' ≡ largest (take (leads p' (length rows)) lengths)
     measured_more =
-        let a = largest_skip (suc (p - 1)) (leads p' (length rows)) t.from t.within t.gap in
-        let b = length_mine (p - 1) (s.inside pos) (s.mine pos) in
-        let d : long ≡ largest (take (p - 1) lengths) = rw here at s.measured in
+        let a = largest_skip (suc r) (leads p' (length rows)) t.from t.within t.gap in
+        let b = length_mine r row_in mine_in in
+        let d : long ≡ largest (take r lengths) = rw led at s.measured in
         longest
         ∙ ap (λ (v : ℕ). max long v) (sym b)
-        ∙ ap (λ (v : ℕ). max v (get_or lengths (p - 1) 0)) d
-        ∙ sym (largest_take_suc lengths (p - 1))
+        ∙ ap (λ (v : ℕ). max v (get_or lengths r 0)) d
+        ∙ sym (largest_take_suc lengths r)
         ∙ sym a
 
-    own_more : (k : ℕ) → k < leads p' (length rows) → target rows k ≡ q → (b : Bool) → ltb k (p - 1) ≡ b → (e : Bool) → eqb k (p - 1) ≡ e
-        → get_or (set sums (p - 1) (unwrap_or count top)) k 0 ≡ min (earlier_rows rows c q k) top
+    own_more : (k : ℕ) → k < leads p' (length rows) → target rows k ≡ q → (b : Bool) → ltb k r ≡ b → (e : Bool) → eqb k r ≡ e
+        → get_or (set sums r (unwrap_or count top)) k 0 ≡ min (earlier_rows rows c q k) top
     own_more k lt h true x e y =
-        let below : k < p - 1 = ltb-true k (p - 1) x in
-        let ne : k ≡ p - 1 → ⊥ = λ z. omega arith in
-        get_or-set_other sums (p - 1) k (unwrap_or count top) 0 ne ∙ s.own k (rw here below) h
+        let below : k < r = ltb-true k r x in
+        let ne : k ≡ r → ⊥ = λ z. omega arith in
+        get_or-set_other sums r k (unwrap_or count top) 0 ne ∙ s.own k (rw led below) h
     own_more k lt h false x true y =
-        let z : k ≡ p - 1 = eqb-true k (p - 1) y in
-        let room : p - 1 < length sums = omega (arith, s.sums_long, s.inside pos) in
-        rw z (get_or-set_same sums (p - 1) (unwrap_or count top) 0 room ∙ kept_low count _ counted_before)
-    own_more k lt h false x false y = absurd (t.gap k (omega (arith, ltb-false k (p - 1) x, eqb-false k (p - 1) y)) lt h)
+        let z : k ≡ r = eqb-true k r y in
+        let room : r < length sums = omega (arith, s.sums_long, row_in) in
+        rw z (get_or-set_same sums r (unwrap_or count top) 0 room ∙ kept_low count _ counted_before)
+    own_more k lt h false x false y = absurd (t.gap k (omega (arith, ltb-false k r x, eqb-false k r y)) lt h)
 
-    sum_goes : Summing sums₀ (set sums (p - 1) (unwrap_or count top)) k long' p'
+    sum_goes : Summing sums₀ (set sums r (unwrap_or count top)) k long' p'
     sum_goes = record {
-      inside = inside_of (suc (p - 1)) p' t;
-      mine = mine_of (suc (p - 1)) p' t;
+      inside = inside_of (suc r) p' t;
+      mine = mine_of (suc r) p' t;
       counted = counted_more;
       measured = measured_more;
-      sums_long = length-set sums (p - 1) (unwrap_or count top) ∙ s.sums_long;
-      own = λ k lt h. own_more k lt h (ltb k (p - 1)) refl (eqb k (p - 1)) refl;
-      others = λ k ne. get_or-set_other sums (p - 1) k (unwrap_or count top) 0 (λ z. ne (ap (λ (v : ℕ). target rows v) z ∙ s.mine pos)) ∙ s.others k ne;
+      sums_long = length-set sums r (unwrap_or count top) ∙ s.sums_long;
+      own = λ k lt h. own_more k lt h (ltb k r) refl (eqb k r) refl;
+      others = λ k ne. get_or-set_other sums r k (unwrap_or count top) 0 (λ z. ne (ap (λ (v : ℕ). target rows v) z ∙ mine_in)) ∙ s.others k ne;
     }
 
 -- ---- the row that the link leads to, by its word
@@ -176,46 +182,36 @@ module _ (rows : List Row) (c l : ℕ → ℕ) (q : ℕ) where
 abbrev pub StateSumming : (rows : List Row) (counts marks : List ℕ) (q : ℕ) (sums₀ sums : List ℕ) (count : Option ℕ) (long p : ℕ) → Type 0
 StateSumming rows counts marks q sums₀ sums count long p = Summing rows (held_whole counts marks) (held_long marks) q sums₀ sums count long p
 
-module _ {pool words first counts marks sums₀ sums : List ℕ} {q long p : ℕ} {count : Option ℕ} (held_rows : Held pool words (length words))
+module _ (pool : List ℕ) {words first counts marks sums₀ sums : List ℕ} {q long p r word p' : ℕ} {count : Option ℕ}
     (chained : Chained (rows_in pool words) first (afters words)) (c : Countable (rows_in pool words) first counts marks sums₀ q)
-    (s : StateSumming (rows_in pool words) counts marks q sums₀ sums count long p) (pos : 0 < p) where
+    (s : StateSumming (rows_in pool words) counts marks q sums₀ sums count long p) (g : Comes words p r word p') where
   abbrev rows : List Row
   rows = rows_in pool words
 
-  abbrev word : ℕ
-  word = get_or words (p - 1) 0
+  inside_rows : r < length rows
+  inside_rows = rw (rows_long pool words) g.inside
 
-  pub row_here : p - 1 < length words
-  row_here = rw (rows_long pool words) at (s.inside pos)
+  mine_here : target rows r ≡ q
+  mine_here = rw g.here.1 (s.mine g.here.0)
 
-  pub sum_here : p - 1 < length sums
-  sum_here = omega (arith, s.inside pos, c.sums_room, s.sums_long)
-
-  pub inside_here : Inside pool word
-  inside_here = held_rows.inside (p - 1) row_here
-
-  args_here : (row_no rows (p - 1)).args ≡ args_in pool word
-  args_here = ap (λ (r : Row). r.args) (row_held_lem pool words (p - 1) row_here)
+  args_here : (row_no rows r).args ≡ args_in pool word
+  args_here = ap (λ (r : Row). r.args) (row_held_lem pool words r g.inside) ∙ ap (args_in pool) (sym g.held)
 
   pub marked_here : (args : List ℕ) → args ≡ args_in pool word → MarksTell counts marks args
-  marked_here args e = rw (e ∙ sym args_here) (c.marked (p - 1) (s.inside pos) (s.mine pos))
+  marked_here args e = rw (e ∙ sym args_here) (c.marked r inside_rows mine_here)
 
-  link_here : TargetLink rows q (suc (p - 1)) (length rows) (after_in word)
-  link_here = rw (s.mine pos, get_d_map after_in words (p - 1) 0 0 row_here) at (chained.afters (p - 1) (omega arith) (s.inside pos))
+  link_here : TargetLink rows q (suc r) (length rows) p'
+  link_here = rw (g.next, g.held) (rw (mine_here, get_d_map after_in words r 0 0 g.inside) at (chained.afters r (omega arith) inside_rows))
 
-  -- the link behind it leads further
-  pub link_further : (p' : ℕ) → p' ≡ after_in word → length rows - leads p' (length rows) < length rows - leads p (length rows)
-  link_further p' e = rw e (omega (arith, s.inside pos, link_here.from, link_here.within, leads_row p (length rows) pos))
-
-  module _ (args : List ℕ) (e : args ≡ args_in pool word) (m long' p' : ℕ) (w k : Option ℕ) (marksum : m ≡ 2 + sum (map (held marks) args)) where
+  module _ (args : List ℕ) (e : args ≡ args_in pool word) (m long' : ℕ) (w k : Option ℕ) (marksum : m ≡ 2 + sum (map (held marks) args)) where
     pub state_goes : Is w (weight_by m (product (map (held counts) args))) → Is k (unwrap_or count ceiling + unwrap_or w ceiling)
-        → long' ≡ max long (if ltb m 1099511627776 then m % 1048576 else 0) → p' ≡ after_in word
-        → StateSumming rows counts marks q sums₀ (set sums (p - 1) (unwrap_or count top)) k long' p'
-    state_goes row more longest link =
-        let a : args ≡ (row_no rows (p - 1)).args = e ∙ sym args_here in
+        → long' ≡ max long (if ltb m 1099511627776 then m % 1048576 else 0)
+        → StateSumming rows counts marks q sums₀ (set sums r (unwrap_or count top)) k long' p'
+    state_goes row more longest =
+        let a : args ≡ (row_no rows r).args = e ∙ sym args_here in
         let t = marked_here args e in
-        sum_goes rows (held_whole counts marks) (held_long marks) q s pos w k long' p' (rw a at (weight_is t marksum w row)) more
-        (rw a at (longest ∙ ap (λ (v : ℕ). max long v) (longer_told t marksum))) (rw (← link) at link_here) c.sums_room
+        sum_goes rows (held_whole counts marks) (held_long marks) q s g.here w k long' p' (rw a at (weight_is t marksum w row)) more
+        (rw a at (longest ∙ ap (λ (v : ℕ). max long v) (longer_told t marksum))) link_here c.sums_room
 
 pub state_begins : (pool words : List ℕ) {first counts marks sums : List ℕ} {q : ℕ} → Chained (rows_in pool words) first (afters words)
     → Countable (rows_in pool words) first counts marks sums q → (p : ℕ) → p ≡ get_or first q 0 → StateSumming (rows_in pool words) counts marks q sums sums (Some 0) 0 p
@@ -223,11 +219,10 @@ state_begins pool words {first} {counts} {marks} {sums} {q} chained c p e =
     sum_begins (rows_in pool words) (held_whole counts marks) (held_long marks) q sums p (rw e (chained.firsts q c.state))
 
 pub state_ends : (rows : List Row) (counts marks : List ℕ) (q : ℕ) {sums₀ sums : List ℕ} {count : Option ℕ} {long p : ℕ} (long' : ℕ)
-    → StateSumming rows counts marks q sums₀ sums count long p → p ≤ 0 → long' ≡ min long long_ceiling
+    → StateSumming rows counts marks q sums₀ sums count long p → p ≡ 0 → long' ≡ min long long_ceiling
     → Summed rows counts marks q sums₀ sums (record { count = count; longest = long' })
-state_ends rows counts marks q {sums₀} {sums} {count} {long} {p} long' s le cut =
+state_ends rows counts marks q {sums₀} {sums} {count} {long} {p} long' s z cut =
     let c : ℕ → ℕ = held_whole counts marks in
-    let z : p ≡ 0 = omega arith in
     let e : leads p (length rows) ≡ length rows = ap (λ (v : ℕ). leads v (length rows)) z ∙ leads_end (length rows) in
     record {
       count = subst (λ (n : ℕ). Is count n) (ap (λ (v : ℕ). earlier_rows rows c q v) e ∙ all_earlier rows c q) s.counted;

@@ -1,7 +1,7 @@
 -- The rows of one target, chained in their order. Assumes nothing: these are definitions.
-use Rattle.std.specs.Prelude.{ℕ, zero, suc, ◌<◌, ◌≤◌, ◌≡◌, List, length, get_or}
+use Rattle.std.specs.Prelude.{ℕ, zero, suc, ◌-◌, ◌<◌, ◌≤◌, ◌≡◌, List, length, get_or}
 use Rattle.model.specs.Table.{Row}
-use Rattle.rows.specs.Words.{row_no, rows_in, nexts, afters, Held}
+use Rattle.rows.specs.Words.{row_no, rows_in, after_in, nexts, afters, Held}
 
 abbrev pub target : List Row → ℕ → ℕ
 target rows r = (row_no rows r).target
@@ -31,6 +31,19 @@ pub record ChainedFrom (rows : List Row) (m : ℕ) (first after : List ℕ) : Ty
 
 abbrev pub Chained : (rows : List Row) (first after : List ℕ) → Type 0
 Chained rows first after = ChainedFrom rows 0 first after
+
+-- the link is within the words, and each word's link leads further: so a walk along them ends
+pub record Onward (words : List ℕ) (link : ℕ) : Type 0 where
+  pub inside : link ≤ length words
+  pub further : (r : ℕ) → r < length words → r < leads (after_in (get_or words r 0)) (length words)
+  pub within : (r : ℕ) → r < length words → after_in (get_or words r 0) ≤ length words
+
+-- of a chain in the words, the row that the link leads to, its word, and the link behind it
+pub record Comes (words : List ℕ) (link r word after : ℕ) : Type 0 where
+  pub here : (1 ≤ link) × (r ≡ link - 1)
+  pub inside : r < length words
+  pub held : word ≡ get_or words r 0
+  pub next : after ≡ after_in word
 
 -- no link yet
 pub record Unchained (first after : List ℕ) : Type 0 where

@@ -1,4 +1,5 @@
 pub mod Chain
+pub mod Walk
 pub mod Marks
 pub mod Kept
 pub mod States

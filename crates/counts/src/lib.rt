@@ -3,12 +3,13 @@
 // sum over a row's arguments decides nearly every row without a tested product.
 #![tactic(auto)]
 
-ghost use Rattle.std.specs.Prelude.{◌≡◌, ◌+◌, ◌^◌, ◌<◌, ◌≤◌, ◌%◌, max, ltb, map, if◌then◌else◌};
+ghost use Rattle.std.specs.Prelude.{slice_index, length, ◌≡◌, ◌+◌, ◌^◌, ◌<◌, ◌≤◌, ◌%◌, max, ltb, map, if◌then◌else◌};
 ghost use Rattle.std.specs.Option.{unwrap_or};
 ghost use Rattle.std.proofs.Props.{props};
 ghost use Rattle.model.specs.Count.{sum, product};
-ghost use Rattle.rows.specs.Words.{rows_in, afters};
-ghost use Rattle.counts.specs.Chain.{Chainable, Chained, ChainedRows};
+ghost use Rattle.rows.specs.Words.{afters};
+ghost use Rattle.rows.specs.Listed.{all_rows};
+ghost use Rattle.counts.specs.Chain.{Chainable, Chained, ChainedRows, Onward};
 ghost use Rattle.counts.specs.Marks.{long_in, over_in, ceiling, long_ceiling, Tells};
 ghost use Rattle.counts.specs.Kept.{Is};
 ghost use Rattle.counts.specs.States.{held, ArgsPlaced, Marked, Some, Fits, Weighable, weight_by, Countable, Summed, CountReady, CountedStates};
@@ -30,7 +31,32 @@ const LENGTH_CEILING: u64 = 4097;
 pub struct ByTarget<'a> {
     pub rows: Rows<'a>,
     pub first: &'a [u16],
-    ghost chained: { Chained (rows_in rows.pool.now rows.words.now) first.now (afters rows.words.now) } by { Prim.hlevel props },
+    ghost chained: { Chained (all_rows rows) first.now (afters rows.words.now) } by { Prim.hlevel props },
+}
+
+// The rows along a chain of links: their numbers and their words. The link is 1 more than the number of the row that comes next, or 0.
+#[derive(Clone, Copy)]
+pub struct RowsOfState<'a> {
+    pub words: &'a [u64],
+    pub next: usize,
+    ghost onward: { Onward words.now next } by { Prim.hlevel props },
+}
+
+impl Iterator for RowsOfState<'_> {
+    ghost use Rattle.counts.specs.Walk.{rows_left, GivesRow};
+
+    type Item = (usize, u64);
+
+    ghost next_gives = { GivesRow };
+
+    ghost remaining = { rows_left };
+
+    fn next(&mut self) -> Option<(usize, u64)> {
+        let r = self.next.checked_sub(1)?;
+        let word = self.words[r];
+        self.next = rows::after_in(word);
+        Some((r, word))
+    }
 }
 
 // What a state counts, or nothing if that is beyond 64 bits, and how many entries its longest tree has, kept to 4,097.
@@ -176,27 +202,34 @@ pub fn chain_rows(pool: &[u16], words: &mut [u64], first: &mut [u16])
     }
 }
 
-impl ByTarget<'_> {
+impl<'a> ByTarget<'a> {
+    // The rows of state q, in their order.
+    pub fn rows_of(&self, q: usize) -> RowsOfState<'a>
+        requires { q < length self.now.first.now }
+        ensures words { result.words.now ≡ self.now.rows.words.now }
+        ensures first { result.next ≡ slice_index self.now.first.now q }
+    {
+        RowsOfState {
+            words: self.rows.words,
+            next: usize::from(self.first[q]),
+        }
+    }
+
     // Counts state q by its rows, and stores for each row what the state's earlier rows count together, kept to 64 bits.
     fn count_state(&self, counts: &[u64], marks: &[u64], sums: &mut [u64], q: usize) -> Counted
-        requires { Countable (rows_in self.now.rows.pool.now self.now.rows.words.now) self.now.first.now
+        requires { Countable (all_rows self.now.rows) self.now.first.now
             counts.now marks.now sums.old q }
-        ensures { Summed (rows_in self.now.rows.pool.now self.now.rows.words.now) counts.now marks.now q
+        ensures { Summed (all_rows self.now.rows) counts.now marks.now q
             sums.old sums.new result }
     {
-        let Rows { pool, words } = self.rows;
         let mut count = Some(0);
         let mut long: u64 = 0;
-        let mut p = usize::from(self.first[q]);
-        while 0 < p {
-            let r = p - 1;
-            let word = words[r];
-            let args = rows::args_in(pool, word);
+        for (r, word) in self.rows_of(q) {
+            let args = rows::args_in(self.rows.pool, word);
             sums[r] = count.unwrap_or(u64::MAX);
             let s = row_sum(args, marks);
             count = plus(count, row_weight(s, args, counts));
             long = longer_of(long, s);
-            p = rows::after_in(word);
         }
         Counted {
             count,
@@ -212,9 +245,9 @@ impl ByTarget<'_> {
         marks: &mut [u64],
         sums: &mut [u64],
     )
-        requires { CountReady states (rows_in self.now.rows.pool.now self.now.rows.words.now) self.now.first.now
+        requires { CountReady states (all_rows self.now.rows) self.now.first.now
             counts.old marks.old sums.old }
-        ensures { CountedStates states (rows_in self.now.rows.pool.now self.now.rows.words.now) counts.old marks.old
+        ensures { CountedStates states (all_rows self.now.rows) counts.old marks.old
             sums.old counts.new marks.new sums.new }
     {
         for q in 0..states {

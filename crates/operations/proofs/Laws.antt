@@ -1,4 +1,5 @@
 -- The check, and what follows it: the parts' promises together are the operations'. Assumes nothing.
+use Rattle.std.specs.Borrow.{Bor}
 use Rattle.std.specs.Prelude.{Result, Ok, Err, if◌then◌else◌}
 use Prim.Native.Nat.{ℕ, ◌<◌, ◌≤◌}
 use mathlib.Core.Path.{◌≡◌, refl, sym, ap, subst, ◌∙◌}
@@ -45,26 +46,26 @@ use Rattle.operations.specs.Answered.{task_prepares, Answered}
 
 -- ---- arrays as they are made
 
-zeros : (n a : ℕ) → get_or {A = ℕ} (replicate n 0) a 0 ≡ 0
-zeros n a = go (dec_le n a)
+same_all : {A : Type 0} (n a : ℕ) (d : A) → get_or (replicate n d) a d ≡ d
+same_all {A} n a d = go (dec_le n a)
   where
-    go : Dec (n ≤ a) → get_or {A = ℕ} (replicate n 0) a 0 ≡ 0
-    go (yes l) = get_or-eq_default (replicate n 0) 0 (rw (length-replicate {A = ℕ} n 0) l)
-    go (no l) = get_or-replicate {A = ℕ} n a 0 0 (lt_of_not-le l)
+    go : Dec (n ≤ a) → get_or {A = A} (replicate n d) a d ≡ d
+    go (yes l) = get_or-eq_default (replicate n d) d (rw (length-replicate {A = A} n d) l)
+    go (no l) = get_or-replicate {A = A} n a d d (lt_of_not-le l)
 
 pub blank : {states : ℕ} {rows : List ℕ} (w h s : ℕ) → Room w (length rows) → (0 < h) × (h ≤ 65536) → (states ≤ 256 → states ≤ s)
-    → Blank states rows (replicate w 0) (replicate h 0) (replicate s 0) (replicate s 0) (replicate s 0) (replicate s 0) (replicate w 0)
+    → Blank states rows (replicate w 0) (replicate h 0) (replicate s 0) (replicate s 0) (replicate s 0) (replicate s false) (replicate w 0)
 blank {states} {rows} w h s room sized few = record {
   room = rw (length-replicate {A = ℕ} w 0) room;
   sized = rw (length-replicate {A = ℕ} h 0) sized;
   heads_empty = λ b l. get_or-replicate {A = ℕ} h b 0 0 (rw (length-replicate {A = ℕ} h 0) at l);
   first_empty = λ q l. get_or-replicate {A = ℕ} s q 0 0 (rw (length-replicate {A = ℕ} s 0) at l);
-  uncounted = zeros s;
-  unmarked = zeros s;
+  uncounted = λ a. same_all s a 0;
+  unmarked = λ a. same_all s a false;
   first_room = λ l. rw (length-replicate {A = ℕ} s 0) (few l);
   counts_room = λ l. rw (length-replicate {A = ℕ} s 0) (few l);
   marks_room = λ l. rw (length-replicate {A = ℕ} s 0) (few l);
-  used_room = λ l. rw (length-replicate {A = ℕ} s 0) (few l);
+  used_room = λ l. rw (length-replicate {A = Bool} s false) (few l);
   sums_room = omega arith;
 }
 
@@ -74,18 +75,18 @@ then_same : (f : ℕ → Outcome) {o o' : Outcome} → o ≡ o' → checked_then
 then_same f e = ap (λ (x : Outcome). checked_then x f) e
 
 module _ {prepare : Bool} {states : ℕ} {rows accepting words heads first counts sums : List ℕ} {o : Result Checked Refusal}
-    (a : CheckAnswer prepare states rows accepting words heads first counts sums o) (tree old : List ℕ) where
+    (a : CheckAnswer prepare states rows accepting words heads first counts sums o) (old : List ℕ) where
   -- the check refuses
-  pub check_refused : (task : Task) (f : Refusal) → o ≡ Err f → Answered task states rows accepting tree old old (Err f)
+  pub check_refused : (task : Task) (f : Refusal) → o ≡ Err f → Answered task states rows accepting old old (Err f)
   unfolding number_outcome number_tree write_outcome write_tree write_list write_tree_list
   check_refused task f e = by_task task
     where
       refuses : refused_by f ≡ check_outcome states rows accepting
       refuses = ap told (sym e) ∙ a.answer
 
-      by_task : (task : Task) → Answered task states rows accepting tree old old (Err f)
+      by_task : (task : Task) → Answered task states rows accepting old old (Err f)
       by_task Check = record { answer = refuses; list = refl }
-      by_task Number = record { answer = then_same _ refuses; list = refl }
+      by_task (Number tree) = record { answer = then_same _ refuses; list = refl }
       by_task (Write number) = record {
         answer = then_same _ refuses;
         list = ap (λ (o : Outcome). lent_after o (tree_entries (table_of states rows accepting) number) old) (then_same _ refuses);
@@ -95,7 +96,7 @@ module _ {prepare : Bool} {states : ℕ} {rows accepting words heads first count
     passes : Passes states rows accepting t
     passes = sym a.answer ∙ ap told e
 
-    pub check_passed : Answered Check states rows accepting tree old old (Ok t)
+    pub check_passed : Answered Check states rows accepting old old (Ok t)
     check_passed = record { answer = sym passes; list = refl }
 
   -- numbering and writing go on from what the check leaves
@@ -128,9 +129,10 @@ module _ {prepare : Bool} {states : ℕ} {rows accepting words heads first count
     pub number_ready : prepare ≡ true → RankReady by rows (take n words) heads accepting counts sums
     number_ready y = rank_ready (table_ready y)
 
-    pub number_answers : prepare ≡ true → (r : Result ℕ Refusal) → outcome r ≡ tree_then tree (machine (rows_in rows (take n words)) accepting counts sums tree) → Answered Number states rows accepting tree old old r
+    pub number_answers : prepare ≡ true → (lent : Bor (List ℕ)) (r : Result ℕ Refusal)
+        → outcome r ≡ tree_then lent.now (machine (rows_in rows (take n words)) accepting counts sums lent.now) → Answered (Number lent) states rows accepting old old r
     unfolding number_outcome number_tree
-    number_answers y r h = record {
+    number_answers y lent r h = let tree : List ℕ = lent.now in record {
       answer =
           h
           ∙ numbers (table_ready y) tree
@@ -227,7 +229,7 @@ module _ {prepare : Bool} {states : ℕ} {rows accepting words heads first count
       unfolding write_outcome write_tree
       follows = then_same (λ m. write_below m number (tree_fits (length old) (length (tree_entries (table_of states rows accepting) number)))) (sym (passes t n by e))
 
-      pub write_answers : (new : List ℕ) (r : Result ℕ Refusal) → WroteBelow (rows_in rows (take n words)) accepting counts t number old new r → Answered (Write number) states rows accepting tree old new r
+      pub write_answers : (new : List ℕ) (r : Result ℕ Refusal) → WroteBelow (rows_in rows (take n words)) accepting counts t number old new r → Answered (Write number) states rows accepting old new r
       unfolding write_list write_tree_list write_outcome
       write_answers new r w =
           let y = answered (number_entries (rows_in rows (take n words)) accepting counts number) same_entries in
@@ -241,5 +243,5 @@ pub prepares_so : {task known : Task} {prepare : Bool} → prepare ≡ task_prep
 prepares_so p e k = p ∙ ap task_prepares e ∙ k
 
 -- a task that is known
-pub for_task : {task known : Task} {states : ℕ} {rows accepting tree old new : List ℕ} {r : Result ℕ Refusal} → task ≡ known → Answered known states rows accepting tree old new r → Answered task states rows accepting tree old new r
-for_task {states = states} {rows} {accepting} {tree} {old} {new} {r} e x = subst (λ (t : Task). Answered t states rows accepting tree old new r) (sym e) x
+pub for_task : {task known : Task} {states : ℕ} {rows accepting old new : List ℕ} {r : Result ℕ Refusal} → task ≡ known → Answered known states rows accepting old new r → Answered task states rows accepting old new r
+for_task {states = states} {rows} {accepting} {old} {new} {r} e x = subst (λ (t : Task). Answered t states rows accepting old new r) (sym e) x

@@ -13,40 +13,36 @@ use rank::Numbering;
 use rows::Rows;
 use unrank::TreeWriter;
 
-// What is asked of a table: its total, the number of the tree that is lent, or the tree of a number.
-// (An enum: as three closures, each would have to state again all that the check leaves.)
+// What is asked of a table: its total, the number of a tree, or the tree of a number.
+// (An enum, and no closure for what follows the check: the arrays are set up here, so each closure would take seven lists and state of each what the
+// check leaves in it.)
 #[derive(Clone, Copy)]
-enum Task {
+enum Task<'a> {
     Check,
-    Number,
+    Number(&'a [u16]),
     Write(u64),
 }
 
 // Whether a task needs to know which states are used.
-fn prepares(task: Task) -> bool
-    ensures { result ≡ task_prepares task }
+fn prepares(task: Task<'_>) -> bool
+    ensures { result ≡ task_prepares task.entry }
 {
-    match task {
-        Task::Check => false,
-        Task::Number => true,
-        Task::Write(_) => false,
-    }
+    matches!(task, Task::Number(_))
 }
 
 // Answers with room for so many rows and states, and so many buckets.
 fn answer_in<'a, const ROWS: usize, const STATES: usize, const HEADS: usize>(
-    task: Task,
+    task: Task<'_>,
     states: u64,
     rows: &'a [u16],
     accepting: &'a [u16],
-    tree: &[u16],
     out: &mut [u16],
 ) -> Answer
     requires rows_room { Room ROWS (length rows.now) }
     requires states_room { states ≤ 256 → states ≤ STATES }
     requires sized { (0 < HEADS) × (HEADS ≤ 65536) }
     requires few { (ROWS ≤ 1024) × (STATES ≤ 256) }
-    ensures { Answered task states rows.now accepting.now tree.now out.old out.new result }
+    ensures { Answered task.entry states rows.now accepting.now out.old out.new result }
 {
     // arrays beside one another, and not of structs: what is said of words, counts and sums is said of lists of numbers, and each step of the check
     // borrows those that it writes
@@ -55,7 +51,7 @@ fn answer_in<'a, const ROWS: usize, const STATES: usize, const HEADS: usize>(
     let mut first = [0u16; STATES];
     let mut counts = [0u64; STATES];
     let mut marks = [0u64; STATES];
-    let mut used = [0u8; STATES];
+    let mut used = [false; STATES];
     let mut sums = [0u64; ROWS];
     let checked = table::check_into(
         prepares(task),
@@ -76,7 +72,7 @@ fn answer_in<'a, const ROWS: usize, const STATES: usize, const HEADS: usize>(
     };
     match task {
         Task::Check => Ok(checked.total),
-        Task::Number => {
+        Task::Number(tree) => {
             let numbering = Numbering::new(
                 held,
                 &heads,
@@ -95,23 +91,18 @@ fn answer_in<'a, const ROWS: usize, const STATES: usize, const HEADS: usize>(
 }
 
 // Answers with as much room as the table needs: a row has at least three entries, and a table with more than 1,024 rows or 256 states is refused.
-fn answer(
-    task: Task,
-    states: u64,
-    rows: &[u16],
-    accepting: &[u16],
-    tree: &[u16],
-    out: &mut [u16],
-) -> Answer
-    ensures { Answered task states rows.now accepting.now tree.now out.old out.new result }
+// (`out` is empty where a task writes no tree. It was tried as a part of `Task::Write`: no fact tells what an enum that is dropped at a `?`, or passed on
+// whole, leaves behind the `&mut` in it.)
+fn answer(task: Task<'_>, states: u64, rows: &[u16], accepting: &[u16], out: &mut [u16]) -> Answer
+    ensures { Answered task.entry states rows.now accepting.now out.old out.new result }
 {
     if 1152 < rows.len() {
-        return answer_in::<1024, 256, 1408>(task, states, rows, accepting, tree, out);
+        return answer_in::<1024, 256, 1408>(task, states, rows, accepting, out);
     }
     if states <= 64 && rows.len() <= 288 {
-        return answer_in::<96, 64, 132>(task, states, rows, accepting, tree, out);
+        return answer_in::<96, 64, 132>(task, states, rows, accepting, out);
     }
-    answer_in::<384, 256, 528>(task, states, rows, accepting, tree, out)
+    answer_in::<384, 256, 528>(task, states, rows, accepting, out)
 }
 
 // Checks a table and gives its total.
@@ -119,23 +110,19 @@ fn answer(
 pub fn check(states: u64, rows: &[u16], accepting: &[u16]) -> Answer
     ensures { outcome result ≡ check_outcome states rows.now accepting.now }
 {
-    let tree = [0u16; 1];
-    let mut out = [0u16; 1];
-    answer(Task::Check, states, rows, accepting, &tree, &mut out)
+    answer(Task::Check, states, rows, accepting, &mut [])
 }
 
 // Numbers a tree of a table.
 pub fn number(states: u64, rows: &[u16], accepting: &[u16], tree: &[u16]) -> Answer
     ensures { outcome result ≡ number_outcome states rows.now accepting.now tree.now }
 {
-    let mut out = [0u16; 1];
-    answer(Task::Number, states, rows, accepting, tree, &mut out)
+    answer(Task::Number(tree), states, rows, accepting, &mut [])
 }
 
 // Writes the tree of a number.
 pub fn write(states: u64, rows: &[u16], accepting: &[u16], number: u64, tree: &mut [u16]) -> Answer
     ensures { WroteTree states rows.now accepting.now number tree.old tree.new result }
 {
-    let none = [0u16; 1];
-    answer(Task::Write(number), states, rows, accepting, &none, tree)
+    answer(Task::Write(number), states, rows, accepting, tree)
 }

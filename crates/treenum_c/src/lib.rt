@@ -12,7 +12,7 @@ ghost use Rattle.treenum_c.specs.Returned.{Returned, Left};
 use model::Answer;
 
 // Returns 0 and puts the result, or returns the refusal's number and puts its place.
-// (A number for each kind, and a place to put another: the C interface.)
+// (C has no `Result`: a C function returns one number, so it says here which of the two it is, and the other number is put where the caller tells.)
 fn give(answer: Answer, value: &mut u64) -> u32
     ensures { Returned (outcome answer) result value.new }
 {
@@ -22,9 +22,8 @@ fn give(answer: Answer, value: &mut u64) -> u32
             0
         }
         Err(r) => {
-            let kind = r.kind;
             *value = r.place;
-            model::kind_number(kind)
+            model::kind_number(r.kind)
         }
     }
 }

@@ -4,11 +4,11 @@ use mathlib.Core.Path.{◌≡◌, sym, ap, ◌∙◌}
 use mathlib.Core.List.{List, map}
 use native.Mathlib.Omega.{arith}
 use native.Mathlib.Numerals.{add-one}
-use lib.ListN.{length, get_or, take}
+use lib.ListN.{length, get_or, take, length-map}
 use Rattle.model.specs.Count.{sum}
 use Rattle.model.specs.Value.{Picked, find_by}
 use Rattle.model.proofs.Counting.{get_d_map, sum_take_suc}
-use Rattle.model.proofs.Values.{find_at}
+use Rattle.model.proofs.Values.{find_at, found}
 use Rattle.counts.specs.States.{held}
 use Rattle.unrank.specs.declared.Spot.{Spot}
 use Rattle.unrank.specs.Trees.{ListReady, spot_of}
@@ -18,14 +18,20 @@ pub record Seeking (accepting counts : List ℕ) (number i value : ℕ) : Type 0
   pub passed : sum (take i (map (held counts) accepting)) + value ≡ number
 
 module _ {accepting counts : List ℕ} {number : ℕ} (x : ListReady accepting counts number) where
+  abbrev ws : List ℕ
+  ws = map (held counts) accepting
+
+  -- the value that is left in the accepting state is below what the state counts
+  pub spot_valued : (s : Spot) → s ≡ spot_of accepting counts number → s.value < held counts s.state
+  spot_valued s e =
+      let f = found ws number x.less in
+      rw e (rw (get_d_map (held counts) accepting (find_by ws number).which 0 0 (rw (length-map accepting (held counts)) at f.inside)) at f.less)
+
   pub seek_begins : Seeking accepting counts number 0 number
   unfolding sum
   seek_begins = record { passed = omega arith }
 
   module _ {i value : ℕ} (s : Seeking accepting counts number i value) where
-    abbrev ws : List ℕ
-    ws = map (held counts) accepting
-
     module _ (l : i < length accepting) where
       abbrev q : ℕ
       q = get_or accepting i 0

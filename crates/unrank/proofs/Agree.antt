@@ -9,13 +9,12 @@ use Rattle.model.specs.Tree.{serial}
 use Rattle.model.specs.Count.{sum}
 use Rattle.model.specs.Value.{find_by, tree_in, tree_of}
 use Rattle.model.proofs.Good.{AllBelow}
-use Rattle.model.proofs.Counting.{get_d_any, get_d_map}
+use Rattle.model.proofs.Counting.{get_d_any}
 use Rattle.model.proofs.Values.{FindsAt, found, depth_free}
 use Rattle.rows.specs.Words.{rows_in, held_table}
 use Rattle.counts.specs.States.{held}
-use Rattle.unrank.specs.declared.Spot.{Spot}
-use Rattle.unrank.specs.UnrankReady.{UnrankReady, ValueReady}
-use Rattle.unrank.specs.Trees.{value_entries, ListReady, spot_of}
+use Rattle.unrank.specs.UnrankReady.{UnrankReady}
+use Rattle.unrank.specs.Trees.{value_entries, spot_of}
 use Rattle.unrank.specs.Written.{number_entries}
 
 -- ---- a number below the total
@@ -28,9 +27,6 @@ module _ {states : ℕ} {pool words others first counts sums : List ℕ} (x : Un
   abbrev ws : List ℕ
   ws = map (held counts) accepting
 
-  pub listed : ListReady accepting counts number
-  listed = record { states = λ i l. omega (arith, below i l, x.counts_room); less = less }
-
   finds : FindsAt ws number (find_by ws number)
   finds = found ws number less
 
@@ -42,15 +38,6 @@ module _ {states : ℕ} {pool words others first counts sums : List ℕ} (x : Un
 
   state : q < states
   state = below (find_by ws number).which inside
-
-  pub spot_valued : (s : Spot) → s ≡ spot_of accepting counts number → ValueReady pool words first counts sums s.state s.value
-  spot_valued s e = rw e (record {
-    states = states;
-    accepting = others;
-    ready = x;
-    state = state;
-    less = rw (get_d_map (held counts) accepting (find_by ws number).which 0 0 inside) at finds.less;
-  })
 
   -- the entries are those of the number's tree with the counts that are held
   pub entries_held : number_entries (rows_in pool words) accepting counts number ≡ serial (tree_of T (held counts) number)

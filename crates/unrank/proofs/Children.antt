@@ -9,14 +9,14 @@ use Rattle.model.specs.Count.{product}
 use Rattle.model.proofs.Good.{AllBelow}
 use Rattle.model.proofs.Lists.{drop_next}
 use Rattle.model.proofs.Values.{Share, share}
-use Rattle.rows.specs.Words.{args_in, rows_in, Inside}
+use Rattle.rows.specs.Words.{args_in, rows_in}
 use Rattle.rows.proofs.Words.{rows_long}
 use Rattle.counts.specs.States.{held}
 use Rattle.unrank.specs.declared.Entered.{Entered}
 use Rattle.unrank.specs.declared.Child.{Child}
-use Rattle.unrank.specs.UnrankReady.{ValueReady}
 use Rattle.unrank.specs.Trees.{Enters, Shared, child_of, value_entries}
-use Rattle.unrank.proofs.Trees.{kids_in, row_entered, entries_are, kids_none, kids_next, short}
+use Rattle.unrank.proofs.Trees.{kids_in, row_entered, entries_are, kids_none, kids_next}
+use Rattle.unrank.proofs.ValueReady.{ValueReady}
 
 -- the children from k on count w together, and h is left for them
 pub record Going (counts : List ℕ) (q : ℕ) (args : List ℕ) (w h k : ℕ) : Type 0 where
@@ -29,11 +29,8 @@ module _ {pool words first counts sums : List ℕ} {q value : ℕ} (x : ValueRea
   rows = rows_in pool words
 
   module _ {e : Entered} (y : Enters pool words counts q value e) where
-    pub row_inside : Inside pool e.word
-    row_inside = rw y.is (x.ready.rows_held.inside y.row y.inside)
-
     lower_args : AllBelow q (args_in pool e.word)
-    lower_args = rw (y.mine, row_entered y) at (x.ready.good.ordered y.row (rw (rows_long pool words) y.inside))
+    lower_args = rw (y.mine, row_entered y) at (x.ordered y.row (rw (rows_long pool words) y.inside))
 
     pub going_begins : Going counts q (args_in pool e.word) e.weight e.rest 0
     going_begins = record { below = lower_args; weighs = rw (row_entered y) at y.weighs; falls = y.falls }
@@ -52,23 +49,17 @@ module _ {pool words first counts sums : List ℕ} {q value : ℕ} (x : ValueRea
     shares = share (held counts) a (drop (k + 1) args) w h (g.weighs ∙ ap (λ (l : List ℕ). product (map (held counts) l)) child_next) g.falls
 
     pub shared : Shared counts a w
-    shared = record { state = omega (arith, below, x.state, x.ready.counts_room); some = shares.counts; others = shares.positive }
+    shared = record { state = omega (arith, below, x.counts_place); some = shares.counts; others = shares.positive }
 
     kids_are : kids_in rows counts q (drop k args) w h ≡ value_entries rows counts a (h / w') ++ kids_in rows counts q (drop (k + 1) args) w' (h % w')
-    kids_are = ap (λ (l : List ℕ). kids_in rows counts q l w h) child_next ∙ kids_next rows counts q x.ready.good.ordered a below (drop (k + 1) args) w h
+    kids_are = ap (λ (l : List ℕ). kids_in rows counts q l w h) child_next ∙ kids_next rows counts q x.ordered a below (drop (k + 1) args) w h
 
     module _ (c : Child) (e : c ≡ child_of counts a w h) where
       pub child_lower : c.state < q
       child_lower = rw e below
 
-      pub child_valued : ValueReady pool words first counts sums c.state c.value
-      child_valued = rw e (record {
-        states = x.states;
-        accepting = x.accepting;
-        ready = x.ready;
-        state = omega (arith, below, x.state);
-        less = shares.value;
-      })
+      pub child_valued : c.value < held counts c.state
+      child_valued = rw e shares.value
 
       pub going_next : Going counts q args c.weight c.rest (k + 1)
       going_next = rw e (record { below = g.below; weighs = shares.leaves; falls = shares.remains })
@@ -107,7 +98,7 @@ module _ {pool words first counts sums : List ℕ} {q value : ℕ} (x : ValueRea
       }
 
       pub measure_small : n + r ≤ 4096
-      measure_small = omega (arith, measure_next.sum, short x)
+      measure_small = omega (arith, measure_next.sum, x.short)
 
     pub measure_ends : length args ≤ k → n ≡ length (value_entries (rows_in pool words) counts q value)
     measure_ends ge = omega (arith, m.sum, ap length (kids_end (rows_in pool words) counts q args w h k ge))

@@ -1,6 +1,7 @@
 pub mod UnrankReady
-pub mod Rows
 pub mod Trees
+pub mod ValueReady
+pub mod Rows
 pub mod Children
 pub mod Writing
 pub mod Accepting

@@ -1,37 +1,36 @@
 -- The row in which a value falls, by the sums along the chain of its state's rows. Assumes nothing.
 use Prim.Native.Nat.{ℕ, zero, suc, ◌-◌, ◌<◌, ◌≤◌}
 use mathlib.Core.Path.{◌≡◌, refl, sym, ◌∙◌}
-use mathlib.Core.Bool.{true}
 use mathlib.Core.List.{List, map}
 use native.Mathlib.Omega.{arith}
 use lib.ListN.{length, get_or}
 use Rattle.model.specs.Table.{Row}
 use Rattle.model.specs.Count.{sum, weight}
 use Rattle.model.specs.Value.{earlier_rows, find_by}
-use Rattle.model.specs.Used.{is_used}
 use Rattle.model.proofs.Counting.{get_d_map, sum_take_suc}
 use Rattle.model.proofs.Values.{find_at}
-use Rattle.rows.specs.Words.{after_in, rows_in, held_table}
+use Rattle.rows.specs.Words.{after_in, rows_in}
 use Rattle.rows.proofs.Words.{rows_long}
-use Rattle.counts.specs.Chain.{target, leads, TargetLink}
+use Rattle.counts.specs.Chain.{target, leads, TargetLink, Comes}
 use Rattle.counts.specs.States.{held}
 use Rattle.counts.proofs.Chain.{leads_row, leads_end}
 use Rattle.counts.proofs.States.{earlier_skip, earlier_more, all_earlier}
-use Rattle.unrank.specs.declared.Entered.{Entered}
-use Rattle.unrank.specs.UnrankReady.{ValueReady}
-use Rattle.unrank.specs.Trees.{Opening, opened_at, Enters}
-use Rattle.unrank.proofs.UnrankReady.{used_here, state_held, sum_held}
+use Rattle.unrank.specs.Trees.{Enters}
+use Rattle.unrank.proofs.ValueReady.{ValueReady}
 
 -- what the rows of q before row i count together
 abbrev before : (rows : List Row) (counts : List ℕ) (q i : ℕ) → ℕ
 before rows counts q i = earlier_rows rows (held counts) q i
 
--- row r of state q does not begin above the value, and p leads to the next row of q
-pub record Walking (rows : List Row) (counts : List ℕ) (q value r p : ℕ) : Type 0 where
-  pub inside : r < length rows
-  pub mine : target rows r ≡ q
-  pub begins : before rows counts q r ≤ value
-  pub link : TargetLink rows q (suc r) (length rows) p
+-- the word is that of a row of state q, which begins at the sum and not above the value, and p leads to the next row of q
+pub record Walking (pool words counts : List ℕ) (q value word begin p : ℕ) : Type 0 where
+  pub row : ℕ
+  pub inside : row < length words
+  pub mine : target (rows_in pool words) row ≡ q
+  pub holds : word ≡ get_or words row 0
+  pub summed : begin ≡ before (rows_in pool words) counts q row
+  pub begins : begin ≤ value
+  pub link : TargetLink (rows_in pool words) q (suc row) (length (rows_in pool words)) p
 
 before_none : (rows : List Row) (counts : List ℕ) (q : ℕ) → before rows counts q 0 ≡ 0
 unfolding earlier_rows sum
@@ -54,28 +53,13 @@ module _ {pool words first counts sums : List ℕ} {q value : ℕ} (x : ValueRea
   many : n ≡ length words
   many = rows_long pool words
 
-  used : is_used (held_table x.states pool words x.accepting) q ≡ true
-  used = used_here x.ready q value x.less
-
   -- all rows of the state together count more than the value
   all_above : value < before rows counts q n
-  all_above = omega (arith, all_earlier rows (held counts) q, state_held x.ready q used, x.less)
-
-  pub state_few : q < 256
-  state_few = omega (arith, x.ready.few, x.state)
-
-  pub rows_few : length words ≤ 1024
-  rows_few = x.ready.rows_held.many
-
-  pub counts_place : q < length counts
-  counts_place = omega (arith, x.ready.counts_room, x.state)
-
-  pub first_place : q < length first
-  first_place = omega (arith, x.ready.first_room, x.state)
+  all_above = omega (arith, all_earlier rows (held counts) q, x.together, x.less)
 
   -- the sum before a row of the state
   sum_is : (r : ℕ) → r < n → target rows r ≡ q → get_or sums r 0 ≡ before rows counts q r
-  sum_is r l e = sum_held x.ready q used r l e
+  sum_is r l e = x.summed r l e
 
   -- a link of the state that leads to a row
   module _ {m p : ℕ} (l : TargetLink rows q m n p) where
@@ -99,7 +83,7 @@ module _ {pool words first counts sums : List ℕ} {q value : ℕ} (x : ValueRea
     none_left z = rw (z, leads_end n) at passed
 
   first_link : TargetLink rows q 0 n (get_or first q 0)
-  first_link = x.ready.chained.firsts q first_place
+  first_link = x.chained.firsts q x.first_place
 
   -- the state has a row
   pub some_row : 0 < get_or first q 0
@@ -112,75 +96,61 @@ module _ {pool words first counts sums : List ℕ} {q value : ℕ} (x : ValueRea
   abbrev first_row : ℕ
   first_row = get_or first q 0 - 1
 
-  pub first_inside : first_row < length words
-  first_inside = rw many at (link_inside first_link some_row)
-
   after_link : (r : ℕ) → r < n → target rows r ≡ q → TargetLink rows q (suc r) n (after_in (get_or words r 0))
-  after_link r l e = rw (get_d_map after_in words r 0 0 (rw many at l), e) at (x.ready.chained.afters r (omega arith) l)
+  after_link r l e = rw (get_d_map after_in words r 0 0 (rw many at l), e) at (x.chained.afters r (omega arith) l)
 
-  pub walk_begins : Walking rows counts q value first_row (after_in (get_or words first_row 0))
-  walk_begins =
-      let i = link_inside first_link some_row in
-      let m = link_mine first_link some_row in
-      record { inside = i; mine = m; begins = omega (arith, link_passed first_link some_row, before_none rows counts q); link = after_link first_row i m }
+  -- the first row comes
+  pub walk_begins : {p r w p' : ℕ} → p ≡ get_or first q 0 → Comes words p r w p' → Walking pool words counts q value w 0 p'
+  walk_begins {p} {r} e g =
+      let k : r ≡ first_row = omega (arith, g.here.1, e) in
+      let i : r < n = rw k (link_inside first_link some_row) in
+      let m : target rows r ≡ q = rw k (link_mine first_link some_row) in
+      let z : before rows counts q r ≡ 0 = rw k (link_passed first_link some_row ∙ before_none rows counts q) in
+      record { row = r; inside = g.inside; mine = m; holds = g.held; summed = sym z; begins = omega arith; link = rw (g.next, g.held) (after_link r i m) }
 
-  -- what holds of a row that is entered
-  enters : (r end : ℕ) → r < n → target rows r ≡ q → before rows counts q r ≤ value → value < end → end ≡ before rows counts q (suc r)
-      → Enters pool words counts q value (opened_at words sums r end value)
-  enters r end l e b less ends =
-      let s = sum_is r l e in
-      record {
-        row = r;
-        inside = rw many at l;
-        mine = e;
-        found = find_row rows counts q value r b (omega arith) ∙ (λ i. record { which = r; rest = value - sym s i });
-        is = refl;
-        weighs = omega (arith, earlier_more rows (held counts) q r l e);
-        falls = omega arith;
-      }
+  module _ {word begin p : ℕ} (w : Walking pool words counts q value word begin p) where
+    abbrev after : ℕ
+    after = before rows counts q (suc w.row)
 
-  opens : (r end : ℕ) → r < n → target rows r ≡ q → before rows counts q r ≤ value → value < end → Opening words sums r end value
-  opens r end l e b less =
-      let s = sum_is r l e in
-      record { inside = rw many at l; summed = omega (arith, many, x.ready.sums_room); ends = omega arith; begins = omega arith }
+    -- the value falls in the row that begins there
+    enters : (end : ℕ) → value < end → end ≡ after → Enters pool words counts q value (record { word = word; weight = end - begin; rest = value - begin })
+    enters end less ends = record {
+      row = w.row;
+      inside = w.inside;
+      mine = w.mine;
+      found =
+          find_row rows counts q value w.row (omega (arith, w.summed, w.begins)) (omega (arith, ends))
+          ∙ (λ i. record { which = w.row; rest = value - sym w.summed i });
+      is = w.holds;
+      weighs = omega (arith, ends, w.summed, earlier_more rows (held counts) q w.row (rw many w.inside) w.mine);
+      falls = omega (arith, w.begins);
+    }
 
-  module _ {r p : ℕ} (w : Walking rows counts q value r p) where
-    -- the next row is beyond the value
-    module _ (pos : 0 < p) where
-      pub next_inside : p - 1 < length words
-      next_inside = rw many at (link_inside w.link pos)
+    -- the next row
+    module _ {k v p' : ℕ} (g : Comes words p k v p') where
+      pub next_summed : k < length sums
+      next_summed = omega (arith, g.inside, x.sums_room)
 
-      pub next_summed : p - 1 < length sums
-      next_summed = omega (arith, next_inside, x.ready.sums_room)
+      next_inside : k < n
+      next_inside = rw many g.inside
 
-      next_sum : get_or sums (p - 1) 0 ≡ before rows counts q (suc r)
-      next_sum = sum_is (p - 1) (link_inside w.link pos) (link_mine w.link pos) ∙ link_passed w.link pos
+      next_mine : target rows k ≡ q
+      next_mine = rw g.here.1 (link_mine w.link g.here.0)
 
-      pub opens_next : value < get_or sums (p - 1) 0 → Opening words sums r (get_or sums (p - 1) 0) value
-      opens_next l = opens r _ w.inside w.mine w.begins l
+      next_sum : get_or sums k 0 ≡ before rows counts q k
+      next_sum = sum_is k next_inside next_mine
 
-      pub enters_next : (e : Entered) → value < get_or sums (p - 1) 0 → e ≡ opened_at words sums r (get_or sums (p - 1) 0) value → Enters pool words counts q value e
-      enters_next e l h = rw h (enters r _ w.inside w.mine w.begins l next_sum)
+      ends : get_or sums k 0 ≡ after
+      ends = next_sum ∙ rw g.here.1 (link_passed w.link g.here.0)
+
+      -- it is beyond the value
+      pub enters_here : value < get_or sums k 0 → Enters pool words counts q value (record { word = word; weight = get_or sums k 0 - begin; rest = value - begin })
+      enters_here l = enters (get_or sums k 0) l ends
 
       -- it is not
-      pub walk_next : get_or sums (p - 1) 0 ≤ value → Walking rows counts q value (p - 1) (after_in (get_or words (p - 1) 0))
-      walk_next l =
-          let i = link_inside w.link pos in
-          let m = link_mine w.link pos in
-          record { inside = i; mine = m; begins = omega (arith, sum_is (p - 1) i m); link = after_link (p - 1) i m }
-
-      pub walk_on : length words - (p - 1) < length words - r
-      walk_on = omega (arith, link_from w.link pos, next_inside)
+      pub walk_next : get_or sums k 0 ≤ value → Walking pool words counts q value v (get_or sums k 0) p'
+      walk_next l = record { row = k; inside = g.inside; mine = next_mine; holds = g.held; summed = next_sum; begins = l; link = rw (g.next, g.held) (after_link k next_inside next_mine) }
 
     -- there is no next row
-    module _ (none : p ≤ 0) where
-      last_sum : held counts q ≡ before rows counts q (suc r)
-      last_sum =
-          let z : p ≡ 0 = omega arith in
-          state_held x.ready q used ∙ sym (all_earlier rows (held counts) q) ∙ none_left w.link z
-
-      pub opens_last : Opening words sums r (held counts q) value
-      opens_last = opens r _ w.inside w.mine w.begins x.less
-
-      pub enters_last : (e : Entered) → e ≡ opened_at words sums r (held counts q) value → Enters pool words counts q value e
-      enters_last e h = rw h (enters r _ w.inside w.mine w.begins x.less last_sum)
+    pub enters_last : p ≡ 0 → Enters pool words counts q value (record { word = word; weight = held counts q - begin; rest = value - begin })
+    enters_last none = enters (held counts q) x.less (x.together ∙ sym (all_earlier rows (held counts) q) ∙ none_left w.link none)

@@ -18,7 +18,7 @@ use Rattle.rows.proofs.Words.{row_held_lem}
 use Rattle.counts.specs.States.{held}
 use Rattle.counts.proofs.Prepared.{as_counted}
 use Rattle.unrank.specs.declared.Entered.{Entered}
-use Rattle.unrank.specs.UnrankReady.{ValueReady}
+use Rattle.unrank.specs.UnrankReady.{UnrankReady}
 use Rattle.unrank.specs.Trees.{Enters, value_entries}
 use Rattle.unrank.proofs.UnrankReady.{used_here}
 
@@ -84,12 +84,12 @@ kids_next rows counts q o a l xs w h =
     ∙ ap (λ (t : Tree). serial t ++ serial_forest others) (depth_free rows o c q (suc a) a v l (omega arith))
 
 -- no tree is longer than document 01's limit
-pub short : {pool words first counts sums : List ℕ} {q value : ℕ} → ValueReady pool words first counts sums q value → length (value_entries (rows_in pool words) counts q value) ≤ 4096
+pub short : {states : ℕ} {pool words accepting first counts sums : List ℕ} → UnrankReady states pool words accepting first counts sums
+    → (q value : ℕ) → value < held counts q → length (value_entries (rows_in pool words) counts q value) ≤ 4096
 unfolding value_entries serial sum
-short {pool} {words} {counts = counts} {q} {value} x =
-    let T = held_table x.states pool words x.accepting in
-    let good = x.ready.good in
-    let e = as_counted x.ready.counted in
+short {states} {pool} {words} {accepting} {counts = counts} x q value l =
+    let T = held_table states pool words accepting in
+    let u = used_here x q value l in
     let r : Reaches T.rows (tree_in T.rows (held counts) (suc q) q value) q
-    = subst (λ (c : ℕ → ℕ). Reaches T.rows (tree_in T.rows c (suc q) q value) q) (sym e) (tree_reaches T good (suc q) q value (omega arith) (omega (arith, x.less, x.ready.counted.counted q))) in
-    omega (arith, forest_most T good r, x.ready.short q (used_here x.ready q value x.less))
+    = subst (λ (c : ℕ → ℕ). Reaches T.rows (tree_in T.rows c (suc q) q value) q) (sym (as_counted x.counted)) (tree_reaches T x.good (suc q) q value (omega arith) (omega (arith, l, x.counted.counted q))) in
+    omega (arith, forest_most T x.good r, x.short q u)

@@ -3,16 +3,16 @@ use Prim.Native.Nat.{ℕ, ◌+◌, ◌-◌, ◌<◌, ◌≤◌}
 use mathlib.Core.Path.{◌≡◌, refl, sym, ap, ◌∙◌}
 use mathlib.Core.List.{List, [], ◌∷◌, ◌++◌, append_assoc, append-nil}
 use native.Mathlib.Omega.{arith}
-use lib.ListN.{length, get_or, take, drop, set, drop_of_length-le, length-append, length-take, length-drop, length-set}
+use lib.ListN.{length, get_or, take, drop, set, drop_of_length-le, length-append, length-take, length-drop}
 use lib.Seq.{take_all, drop-drop, drop-set-lt}
 use Rattle.model.specs.Table.{Row}
-use Rattle.model.proofs.Writing.{Writing, writing_length, rest_fits, piece_fits, piece_written, writing_last, one_set}
+use Rattle.model.proofs.Writing.{Writing, rest_fits, piece_fits, piece_written, writing_last, one_set}
 use Rattle.rows.specs.Words.{symbol_in, args_in, rows_in}
 use Rattle.unrank.specs.declared.Entered.{Entered}
 use Rattle.unrank.specs.declared.Child.{Child}
-use Rattle.unrank.specs.UnrankReady.{ValueReady}
 use Rattle.unrank.specs.Trees.{Enters, child_of, value_entries, Wrote}
 use Rattle.unrank.proofs.Trees.{kids_in, entries_are}
+use Rattle.unrank.proofs.ValueReady.{ValueReady}
 use Rattle.unrank.proofs.Children.{Going, going_begins, going_next, kids_turn, kids_end}
 
 -- the first entry is written
@@ -58,11 +58,6 @@ pub record WritingTree (rows : List Row) (counts : List ℕ) (q value : ℕ) (ol
   pub going : Going counts q args w h k
   pub writes : Writing old new (value_entries rows counts q value) (kids_in rows counts q (drop k args) w h ++ 0 ∷ []) at
 
--- the list keeps its length
-pub tree_kept : {rows : List Row} {counts : List ℕ} {q value : ℕ} {old args new : List ℕ} {w h at k : ℕ} → WritingTree rows counts q value old args new w h at k
-    → (out : List ℕ) (s : ℕ) → old ≡ set out 0 s → length new ≡ length out
-tree_kept t out s e = writing_length t.writes ∙ ap length e ∙ length-set out 0 s
-
 -- a tree has an entry
 pub some_entry : {pool words counts : List ℕ} {q value : ℕ} {e : Entered} → Enters pool words counts q value e → 0 < length (value_entries (rows_in pool words) counts q value)
 some_entry y = omega (arith, ap length (entries_are y))
@@ -93,9 +88,6 @@ module _ {pool words first counts sums : List ℕ} {q value : ℕ} (x : ValueRea
       pub child_room : length piece ≤ length (take (length new - at) (drop at new))
       child_room = part_room piece others turns
 
-      pub child_place : at ≤ length new
-      child_place = omega (arith, rest_fits turns)
-
       pub tree_next : (ys : List ℕ) (n : ℕ) → Wrote rows counts c.state c.value (take (length new - at) (drop at new)) ys n
           → WritingTree rows counts q value old args (take at new ++ (ys ++ drop (length new - at) (drop at new))) c.weight c.rest (at + n) (k + 1)
       tree_next ys n o = record { going = going_next x t.going lt a at_k c e; writes = part_put piece others turns ys n o.many o.holds }
@@ -103,9 +95,6 @@ module _ {pool words first counts sums : List ℕ} {q value : ℕ} (x : ValueRea
     module _ (ge : length args ≤ k) where
       bar_left : Writing old new (value_entries rows counts q value) (0 ∷ []) at
       bar_left = rw (kids_end rows counts q args w h k ge) at t.writes
-
-      pub bar_fits : at < length new
-      bar_fits = last_fits bar_left
 
       -- the first entry was written before the children: the entries after the tree are still those of the list as lent
       pub tree_ends : (out : List ℕ) (s : ℕ) → old ≡ set out 0 s → Wrote rows counts q value out (set new at 0) (at + 1)

@@ -1,5 +1,5 @@
 -- The row in which a value falls, its children, and the entries of its tree. Assumes nothing: these are definitions.
-use Rattle.std.specs.Prelude.{ℕ, suc, ◌-◌, ◌/◌, ◌%◌, ◌<◌, ◌≤◌, ◌≡◌, List, map, ◌++◌, length, get_or, drop}
+use Rattle.std.specs.Prelude.{ℕ, suc, ◌/◌, ◌%◌, ◌<◌, ◌≡◌, List, map, ◌++◌, length, get_or, drop}
 use Rattle.model.specs.Table.{Row}
 use Rattle.rows.specs.Words.{row_no, rows_in}
 use Rattle.model.specs.Tree.{serial}
@@ -10,16 +10,6 @@ use Rattle.counts.specs.States.{held}
 use Rattle.unrank.specs.declared.Entered.{Entered}
 use Rattle.unrank.specs.declared.Child.{Child}
 use Rattle.unrank.specs.declared.Spot.{Spot}
-
--- the value is not below the sum before row r, nor is the end
-pub record Opening (words sums : List ℕ) (r end value : ℕ) : Type 0 where
-  pub inside : r < length words
-  pub summed : r < length sums
-  pub ends : get_or sums r 0 ≤ end
-  pub begins : get_or sums r 0 ≤ value
-
-abbrev pub opened_at : (words sums : List ℕ) (r end value : ℕ) → Entered
-opened_at words sums r end value = record { word = get_or words r 0; weight = end - get_or sums r 0; rest = value - get_or sums r 0 }
 
 -- the row that is found by the sums, of the state's rows the one in which the value falls
 pub record Enters (pool words counts : List ℕ) (q value : ℕ) (e : Entered) : Type 0 where

@@ -1,5 +1,5 @@
 -- What writing starts from: a table that passes, with what its check leaves. Assumes nothing: these are definitions.
-use Rattle.std.specs.Prelude.{ℕ, ◌<◌, ◌≤◌, ◌≡◌, true, List, map, length}
+use Rattle.std.specs.Prelude.{ℕ, ◌≤◌, ◌≡◌, true, List, map, length}
 use Rattle.model.specs.Count.{sum, longest}
 use Rattle.model.specs.Used.{is_used}
 use Rattle.model.proofs.Good.{AllBelow, Good}
@@ -21,14 +21,6 @@ pub record UnrankReady (states : ℕ) (pool words accepting first counts sums : 
   pub sums_room : length words ≤ length sums
   pub counted : UsedCounts (held_table states pool words accepting) counts sums
 
--- a value below the count of a state of such a table, which is used
-pub record ValueReady (pool words first counts sums : List ℕ) (q value : ℕ) : Type 0 where
-  pub states : ℕ
-  pub accepting : List ℕ
-  pub ready : UnrankReady states pool words accepting first counts sums
-  pub state : q < states
-  pub less : value < held counts q
-
 -- such a table, and a list of accepting states with its total; the table may list others, whose counts are left too
 pub record WriteReady (pool words accepting first counts sums : List ℕ) (total : ℕ) : Type 0 where
   pub states : ℕ
@@ -36,11 +28,3 @@ pub record WriteReady (pool words accepting first counts sums : List ℕ) (total
   pub ready : UnrankReady states pool words others first counts sums
   pub listed : AllBelow states accepting
   pub total_is : total ≡ sum (map (held counts) accepting)
-
--- a number below the total of such a list
-pub record NumberReady (pool words accepting first counts sums : List ℕ) (number : ℕ) : Type 0 where
-  pub states : ℕ
-  pub others : List ℕ
-  pub ready : UnrankReady states pool words others first counts sums
-  pub listed : AllBelow states accepting
-  pub less : number < sum (map (held counts) accepting)

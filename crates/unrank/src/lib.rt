@@ -1,11 +1,11 @@
 // Writing the tree of a number of a table that passes.
 #![tactic(auto)]
 
-ghost use Rattle.std.specs.Prelude.{◌≡◌, ◌≤◌, length};
-ghost use Rattle.rows.specs.Words.{rows_in, afters};
-ghost use Rattle.counts.specs.Chain.{Chained};
-ghost use Rattle.unrank.specs.UnrankReady.{ValueReady, WriteReady, NumberReady};
-ghost use Rattle.unrank.specs.Trees.{Opening, opened_at, Enters, Shared, child_of, value_entries, Wrote, ListReady, spot_of};
+ghost use Rattle.std.specs.Prelude.{◌≡◌, ◌<◌, ◌≤◌, length};
+ghost use Rattle.rows.specs.Listed.{all_rows};
+ghost use Rattle.counts.specs.States.{held};
+ghost use Rattle.unrank.specs.UnrankReady.{WriteReady};
+ghost use Rattle.unrank.specs.Trees.{Enters, Shared, child_of, value_entries, Wrote, spot_of};
 ghost use Rattle.unrank.specs.Written.{WroteNumber, WroteBelow};
 
 use counts::ByTarget;
@@ -37,8 +37,8 @@ struct Spot {
 }
 
 // A table that passes, as its check leaves it for writing: its rows chained by target, its accepting list, what each state counts, for each row what the
-// rows before it with its target count, and the total.
-// (`WriteReady` and `ValueReady` stay with the methods: they name a list of states, and a method promises a row, so the fact cannot be truncated.)
+// rows before it with its target count, and the total. (The fact is truncated: `WriteReady` names the table's states, and the list with which they are
+// counted.)
 #[derive(Clone, Copy)]
 pub struct TreeWriter<'a> {
     pub by_target: ByTarget<'a>,
@@ -46,6 +46,7 @@ pub struct TreeWriter<'a> {
     pub counts: &'a [u64],
     pub sums: &'a [u64],
     pub total: u64,
+    ghost ready: { ∥ WriteReady by_target.rows.pool.now by_target.rows.words.now accepting.now by_target.first.now counts.now sums.now total ∥₁ },
 }
 
 impl<'a> TreeWriter<'a> {
@@ -58,7 +59,7 @@ impl<'a> TreeWriter<'a> {
         sums: &'a [u64],
         total: u64,
     ) -> TreeWriter<'a>
-        requires { Chained (rows_in rows.pool.now rows.words.now) first.now (afters rows.words.now) }
+        requires { WriteReady rows.pool.now rows.words.now accepting.now first.now counts.now sums.now total }
         ensures { (result.by_target.rows.pool.now ≡ rows.entry.pool.now) × (result.by_target.rows.words.now ≡ rows.entry.words.now) × (result.by_target.first.now ≡ first.now)
             × (result.accepting.now ≡ accepting.now) × (result.counts.now ≡ counts.now) × (result.sums.now ≡ sums.now) × (result.total ≡ total) }
     {
@@ -72,35 +73,34 @@ impl<'a> TreeWriter<'a> {
         }
     }
 
-    // Row r as the row in which the value falls; `end` is the first value beyond the row.
-    fn enter_row(&self, r: usize, end: u64, value: u64) -> Entered
-        requires { Opening self.now.by_target.rows.words.now self.now.sums.now r end value }
-        ensures { result ≡ opened_at self.now.by_target.rows.words.now self.now.sums.now r end value }
-    {
-        Entered {
-            word: self.by_target.rows.words[r],
-            weight: end - self.sums[r],
-            rest: value - self.sums[r],
-        }
-    }
-
     // The row of state q in which the value falls, by the sums along the chain of the state's rows.
     fn find_row(&self, q: usize, value: u64) -> Entered
-        requires { ValueReady self.now.by_target.rows.pool.now self.now.by_target.rows.words.now self.now.by_target.first.now self.now.counts.now self.now.sums.now q value }
+        requires { value < held self.now.counts.now q }
         ensures { Enters self.now.by_target.rows.pool.now self.now.by_target.rows.words.now self.now.counts.now q value result }
     {
-        let words = self.by_target.rows.words;
-        let mut r = usize::from(self.by_target.first[q]) - 1;
-        let mut p = rows::after_in(words[r]);
-        while 0 < p {
-            let end = self.sums[p - 1];
+        let mut rows = self.by_target.rows_of(q);
+        let Some((_, mut word)) = rows.next() else {
+            // a state that has a value has a row
+            unreachable!()
+        };
+        let mut begin = 0;
+        for (r, next) in rows {
+            let end = self.sums[r];
             if value < end {
-                return self.enter_row(r, end, value);
+                return Entered {
+                    word,
+                    weight: end - begin,
+                    rest: value - begin,
+                };
             }
-            r = p - 1;
-            p = rows::after_in(words[r]);
+            word = next;
+            begin = end;
         }
-        self.enter_row(r, self.counts[q], value)
+        Entered {
+            word,
+            weight: self.counts[q] - begin,
+            rest: value - begin,
+        }
     }
 
     // The child in state a, where w is the product of its count and those of the children after it, and h is what is left of the value for them.
@@ -119,8 +119,8 @@ impl<'a> TreeWriter<'a> {
 
     // How many entries the tree of a value in state q has.
     fn tree_length(&self, q: usize, value: u64) -> usize
-        requires { ValueReady self.now.by_target.rows.pool.now self.now.by_target.rows.words.now self.now.by_target.first.now self.now.counts.now self.now.sums.now q value }
-        ensures { result ≡ length (value_entries (rows_in self.now.by_target.rows.pool.now self.now.by_target.rows.words.now) self.now.counts.now q value) }
+        requires { value < held self.now.counts.now q }
+        ensures { result ≡ length (value_entries (all_rows self.now.by_target.rows) self.now.counts.now q value) }
     {
         let row = self.find_row(q, value);
         let mut w = row.weight;
@@ -138,9 +138,9 @@ impl<'a> TreeWriter<'a> {
     // Writes the tree of a value in state q at the front of `out`, and gives how many entries it has.
     // (The walk is `tree_length`'s. As one function it would need a trait for where the entries go and two types with it: more than the loop it saves.)
     fn write_tree(&self, q: usize, value: u64, out: &mut [u16]) -> usize
-        requires value_ready { ValueReady self.now.by_target.rows.pool.now self.now.by_target.rows.words.now self.now.by_target.first.now self.now.counts.now self.now.sums.now q value }
-        requires value_in_bounds { length (value_entries (rows_in self.now.by_target.rows.pool.now self.now.by_target.rows.words.now) self.now.counts.now q value) ≤ length out.old }
-        ensures { Wrote (rows_in self.now.by_target.rows.pool.now self.now.by_target.rows.words.now) self.now.counts.now q value out.old out.new result }
+        requires value_below { value < held self.now.counts.now q }
+        requires value_in_bounds { length (value_entries (all_rows self.now.by_target.rows) self.now.counts.now q value) ≤ length out.old }
+        ensures { Wrote (all_rows self.now.by_target.rows) self.now.counts.now q value out.old out.new result }
     {
         let row = self.find_row(q, value);
         let mut w = row.weight;
@@ -159,7 +159,7 @@ impl<'a> TreeWriter<'a> {
 
     // The accepting state in which the number falls, by the sums, and the value that is left there.
     fn find_state(&self, number: u64) -> Spot
-        requires { ListReady self.now.accepting.now self.now.counts.now number }
+        requires { number < self.now.total }
         ensures { result ≡ spot_of self.now.accepting.now self.now.counts.now number }
     {
         let mut value = number;
@@ -176,8 +176,8 @@ impl<'a> TreeWriter<'a> {
 
     // Writes the tree of a number below the total where it fits.
     fn write_number(&self, number: u64, tree: &mut [u16]) -> Answer
-        requires { NumberReady self.now.by_target.rows.pool.now self.now.by_target.rows.words.now self.now.accepting.now self.now.by_target.first.now self.now.counts.now self.now.sums.now number }
-        ensures { WroteNumber (rows_in self.now.by_target.rows.pool.now self.now.by_target.rows.words.now) self.now.accepting.now self.now.counts.now number
+        requires { number < self.now.total }
+        ensures { WroteNumber (all_rows self.now.by_target.rows) self.now.accepting.now self.now.counts.now number
             tree.old tree.new result }
     {
         let Spot { state, value } = self.find_state(number);
@@ -191,8 +191,7 @@ impl<'a> TreeWriter<'a> {
 
     // Writes the tree of a number.
     pub fn write(&self, number: u64, tree: &mut [u16]) -> Answer
-        requires { WriteReady self.now.by_target.rows.pool.now self.now.by_target.rows.words.now self.now.accepting.now self.now.by_target.first.now self.now.counts.now self.now.sums.now self.now.total }
-        ensures { WroteBelow (rows_in self.now.by_target.rows.pool.now self.now.by_target.rows.words.now) self.now.accepting.now self.now.counts.now self.now.total number
+        ensures { WroteBelow (all_rows self.now.by_target.rows) self.now.accepting.now self.now.counts.now self.now.total number
             tree.old tree.new result }
     {
         if self.total <= number {

@@ -5,9 +5,7 @@ use mathlib.Core.Path.{◌≡◌, refl, sym, ap, ◌∙◌}
 use mathlib.Core.Bool.{Bool, true, false}
 use mathlib.Core.List.{List}
 use native.Mathlib.Decide.{dec_le}
-use native.Mathlib.Nat.{pos_of_ne-zero}
 use native.Mathlib.Omega.{arith}
-use lib.ListN.{get_or}
 use lib.Dec.{ltb}
 use borrow.Author.Tests.{lt-ltb, le-ltb, ltb-false}
 use Rattle.model.specs.declared.Kind.{Kind}
@@ -118,10 +116,10 @@ place_of states ms (Some (q, k)) n f e = record { fine = λ T s m. rw e (f.at T 
 -- ---- the used states in turn
 
 -- no used state before q is beyond a limit
-pub record NoneBefore (states : ℕ) (ms used : List ℕ) (q : ℕ) : Type 0 where
+pub record NoneBefore (states : ℕ) (ms : List ℕ) (used : List Bool) (q : ℕ) : Type 0 where
   pub fine : (T : Table) → T.states ≡ states → Measures T ms → ((a : ℕ) → is_set used a ≡ is_used T a) → AllFine q (state_ground count_limit T)
 
-module _ (states : ℕ) (ms used : List ℕ) where
+module _ (states : ℕ) (ms : List ℕ) (used : List Bool) where
   pub none_begins : (from : ℕ) → FaultFrom states ms from → NoneBefore states ms used from
   none_begins from f = record { fine = λ T s m u a l. ground_clear count_limit T a (f.fine T s m a (omega arith) l) }
 
@@ -135,8 +133,8 @@ module _ (states : ℕ) (ms used : List ℕ) where
             go (yes y) = ground_clear count_limit T b ((f.at T s m a k e).before b y l)
             go (no y) = x.fine T s m u b (omega arith)
 
-        pub fault_there : (get_or used a 0 ≡ 0 → ⊥) → FirstUsed states ms used (Some (a, k))
-        fault_there ne = record {
+        pub fault_there : is_set used a ≡ true → FirstUsed states ms used (Some (a, k))
+        fault_there y = record {
           found = λ T s m u. record {
             fault = λ q' k' h. there T s m u q' k' h;
             fine = λ h. let z : ◌≡◌ {A = ℕ} 0 1 = cc in absurd (omega arith);
@@ -147,19 +145,19 @@ module _ (states : ℕ) (ms used : List ℕ) where
                 → FirstAt states (state_ground count_limit T) q' (kind_number k')
             there T s m u q' k' h =
                 let p : ◌≡◌ {A = ℕ × Kind} (a, k) (q', k') = cc in
-                let y : a ≡ q' = ap (λ (f : ℕ × Kind). f.0) p in
+                let b : a ≡ q' = ap (λ (f : ℕ × Kind). f.0) p in
                 let z : k ≡ k' = ap (λ (f : ℕ × Kind). f.1) p in
-                rw (← y, ← z) (record {
+                rw (← b, ← z) (record {
                   inside = (f.inside a k e).1;
                   before = before T s m u;
-                  here = ground_used count_limit T a (sym (u a) ∙ lt-ltb 0 (get_or used a 0) (pos_of_ne-zero ne)) ∙ (f.at T s m a k e).here;
+                  here = ground_used count_limit T a (sym (u a) ∙ y) ∙ (f.at T s m a k e).here;
                 })
 
-        pub none_goes : get_or used a 0 ≡ 0 → NoneBefore states ms used (a + 1)
+        pub none_goes : is_set used a ≡ false → NoneBefore states ms used (a + 1)
         none_goes z = record { fine = λ T s m u b l. go T s m u b l (dec_le a b) }
           where
             go : (T : Table) → T.states ≡ states → Measures T ms → ((a : ℕ) → is_set used a ≡ is_used T a) → (b : ℕ) → b < a + 1 → Dec (a ≤ b) → state_ground count_limit T b ≡ 0
-            go T s m u b l (yes y) = let i : b ≡ a = omega arith in rw i (ground_unused count_limit T a (sym (u a) ∙ ap (ltb 0) z))
+            go T s m u b l (yes y) = let i : b ≡ a = omega arith in rw i (ground_unused count_limit T a (sym (u a) ∙ z))
             go T s m u b l (no y) = before T s m u b (omega arith)
 
       pub fault_none : r ≡ None → FirstUsed states ms used None

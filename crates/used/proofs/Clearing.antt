@@ -5,22 +5,21 @@ use mathlib.Core.Path.{◌≡◌, refl, sym, ap, ◌∙◌}
 use mathlib.Core.Bool.{Bool, true, false}
 use mathlib.Core.List.{List}
 use native.Mathlib.Decide.{dec_le}
-use native.Mathlib.Nat.{pos_of_ne-zero}
 use native.Mathlib.Omega.{arith}
 use lib.ListN.{length, get_or, set, length-set}
 use lib.Seq.{get_or-set_same, get_or-set_other}
-use lib.Dec.{eqb, ltb}
-use borrow.Author.Tests.{lt-ltb, eqb-true, eqb-false}
+use lib.Dec.{eqb}
+use borrow.Author.Tests.{eqb-true, eqb-false}
 use Rattle.model.specs.Table.{Row}
 use Rattle.model.proofs.Choice.{if_yes, if_no}
-use Rattle.rows.specs.Words.{after_in, rows_in}
+use Rattle.rows.specs.Words.{rows_in}
 use Rattle.rows.proofs.Words.{rows_long}
-use Rattle.counts.specs.Chain.{leads, TargetLink}
+use Rattle.counts.specs.Chain.{leads, TargetLink, Comes}
 use Rattle.counts.specs.States.{held}
 use Rattle.counts.proofs.Chain.{leads_row, leads_end}
 use Rattle.used.specs.Marked.{is_set}
 use Rattle.used.specs.Settled.{target_at, RowsChained, RowsCleared, ClearReady, Cleared}
-use Rattle.used.proofs.Walk.{AtRow, at_link, target_word, link_next, link_further}
+use Rattle.used.proofs.Walk.{AtRow, at_link, target_word, link_next}
 
 -- ---- the rows of one state
 
@@ -69,45 +68,38 @@ module _ {words first sums₀ : List ℕ} {q : ℕ} (g : RowsChained words first
       link : TargetLink (rows_in g.pool words) q 0 (length (rows_in g.pool words)) p
       link = rw e (g.chained.firsts q g.state)
 
-  module _ {sums : List ℕ} {p : ℕ} (x : Emptying words q sums₀ sums p) (pos : 0 < p) where
-    pub word_here : p - 1 < length words
-    word_here = x.at_word.inside pos
+  module _ {sums : List ℕ} {p r word p' : ℕ} (x : Emptying words q sums₀ sums p) (c : Comes words p r word p') where
+    sum_here : r < length sums
+    sum_here = omega (arith, c.inside, x.long, g.sums_room)
 
-    pub sum_here : p - 1 < length sums
-    sum_here = omega (arith, word_here, x.long, g.sums_room)
+    link : TargetLink (rows_in g.pool words) q (suc r) (length (rows_in g.pool words)) p'
+    link = link_next g.pool words g.chained (from_word g.pool words q p x.at_word) c
 
-    link : (p' : ℕ) → p' ≡ after_in (get_or words (p - 1) 0) → TargetLink (rows_in g.pool words) q (suc (p - 1)) (length (rows_in g.pool words)) p'
-    link = link_next g.pool words g.chained (from_word g.pool words q p x.at_word) pos
-
-    pub emptying_further : (p' : ℕ) → p' ≡ after_in (get_or words (p - 1) 0) → length words - leads p' (length words) < length words - leads p (length words)
-    emptying_further p' e = rw (rows_long g.pool words) at (link_further g.pool words g.chained (from_word g.pool words q p x.at_word) pos p' e)
-
-    pub emptying_goes : (p' : ℕ) → p' ≡ after_in (get_or words (p - 1) 0) → Emptying words q sums₀ (set sums (p - 1) 0) p'
-    emptying_goes p' e = record {
-      at_word = to_word g.pool words q p' (at_link p' (link p' e));
-      long = length-set sums (p - 1) 0 ∙ x.long;
-      own = λ k l h. own k l h (eqb k (p - 1)) (eqb-true k (p - 1)) (eqb-false k (p - 1));
-      others = λ k ne. get_or-set_other sums (p - 1) k 0 0 (λ z. ne (ap (target_at words) z ∙ x.at_word.mine pos)) ∙ x.others k ne;
+    pub emptying_goes : Emptying words q sums₀ (set sums r 0) p'
+    emptying_goes = record {
+      at_word = to_word g.pool words q p' (at_link p' link);
+      long = length-set sums r 0 ∙ x.long;
+      own = λ k l h. own k l h (eqb k r) (eqb-true k r) (eqb-false k r);
+      others = λ k ne. get_or-set_other sums r k 0 0 (λ z. ne (ap (target_at words) (z ∙ c.here.1) ∙ x.at_word.mine c.here.0)) ∙ x.others k ne;
     }
       where
-        own : (k : ℕ) → k < leads p' (length words) → target_at words k ≡ q → (b : Bool) → (b ≡ true → k ≡ p - 1) → (b ≡ false → k ≡ p - 1 → ⊥) → get_or (set sums (p - 1) 0) k 0 ≡ 0
-        own k l h true y n = let z : k ≡ p - 1 = y refl in rw z (get_or-set_same sums (p - 1) 0 0 sum_here)
-        own k l h false y n = get_or-set_other sums (p - 1) k 0 0 (n refl) ∙ x.own k (rw (leads_row p (length words) pos) (before (dec_le k (p - 1)))) h
+        own : (k : ℕ) → k < leads p' (length words) → target_at words k ≡ q → (b : Bool) → (b ≡ true → k ≡ r) → (b ≡ false → k ≡ r → ⊥) → get_or (set sums r 0) k 0 ≡ 0
+        own k l h true y n = let z : k ≡ r = y refl in rw z (get_or-set_same sums r 0 0 sum_here)
+        own k l h false y n = get_or-set_other sums r k 0 0 (n refl) ∙ x.own k (rw (leads_row p (length words) c.here.0 ∙ sym c.here.1) (before (dec_le k r))) h
           where
-            before : Dec (k ≤ p - 1) → k < p - 1
+            before : Dec (k ≤ r) → k < r
             before (yes le) = omega (arith, n refl)
-            before (no gt) = absurd (no_row g.pool words q (suc (p - 1)) p' k (link p' e) (omega arith) l h)
+            before (no gt) = absurd (no_row g.pool words q (suc r) p' k link (omega arith) l h)
 
-pub emptying_ends : {words sums₀ sums : List ℕ} {q p : ℕ} → Emptying words q sums₀ sums p → p ≤ 0 → RowsCleared words q sums₀ sums
-emptying_ends {words} {p = p} x le =
-    let z : p ≡ 0 = omega arith in
+pub emptying_ends : {words sums₀ sums : List ℕ} {q p : ℕ} → Emptying words q sums₀ sums p → p ≡ 0 → RowsCleared words q sums₀ sums
+emptying_ends {words} {p = p} x z =
     let e : leads p (length words) ≡ length words = ap (λ (v : ℕ). leads v (length words)) z ∙ leads_end (length words) in
     record { long = x.long; own = λ k l h. x.own k (rw e l) h; others = x.others }
 
 -- ---- the states in turn
 
 -- the states before q are cleared where they have no mark
-pub record Clearing (states : ℕ) (words used cs₀ cs ss₀ ss : List ℕ) (q : ℕ) : Type 0 where
+pub record Clearing (states : ℕ) (words : List ℕ) (used : List Bool) (cs₀ cs ss₀ ss : List ℕ) (q : ℕ) : Type 0 where
   pub within : q ≤ states
   pub cs_long : length cs ≡ length cs₀
   pub sums_long : length ss ≡ length ss₀
@@ -116,7 +108,7 @@ pub record Clearing (states : ℕ) (words used cs₀ cs ss₀ ss : List ℕ) (q 
   pub sums : (k : ℕ) → k < length words → target_at words k < q → get_or ss k 0 ≡ (if is_set used (target_at words k) then get_or ss₀ k 0 else 0)
   pub later_sums : (k : ℕ) → k < length words → q ≤ target_at words k → get_or ss k 0 ≡ get_or ss₀ k 0
 
-pub clearing_begins : (states : ℕ) (words used cs ss : List ℕ) → Clearing states words used cs cs ss ss 0
+pub clearing_begins : (states : ℕ) (words : List ℕ) (used : List Bool) (cs ss : List ℕ) → Clearing states words used cs cs ss ss 0
 clearing_begins states words used cs ss = record {
   within = omega arith;
   cs_long = refl;
@@ -127,7 +119,7 @@ clearing_begins states words used cs ss = record {
   later_sums = λ k i l. refl;
 }
 
-module _ {states : ℕ} {words first used cs₀ ss₀ : List ℕ} (g : ClearReady states words first used cs₀ ss₀) where
+module _ {states : ℕ} {words first : List ℕ} {used : List Bool} {cs₀ ss₀ : List ℕ} (g : ClearReady states words first used cs₀ ss₀) where
   module _ {cs ss : List ℕ} {q : ℕ} (x : Clearing states words used cs₀ cs ss₀ ss q) where
     module _ (l : q < states) where
       pub mark_here : q < length used
@@ -140,8 +132,8 @@ module _ {states : ℕ} {words first used cs₀ ss₀ : List ℕ} (g : ClearRead
       rows_ready = record { pool = g.pool; chained = g.chained; state = omega (arith, g.first_room); sums_room = omega (arith, g.sums_room, x.sums_long) }
 
       -- a state without a mark
-      pub clearing_goes : (ss' : List ℕ) → get_or used q 0 ≡ 0 → RowsCleared words q ss ss' → Clearing states words used cs₀ (set cs q 0) ss₀ ss' (q + 1)
-      clearing_goes ss' z y = record {
+      pub clearing_goes : (ss' : List ℕ) → is_set used q ≡ false → RowsCleared words q ss ss' → Clearing states words used cs₀ (set cs q 0) ss₀ ss' (q + 1)
+      clearing_goes ss' unset y = record {
         within = omega arith;
         cs_long = length-set cs q 0 ∙ x.cs_long;
         sums_long = y.long ∙ x.sums_long;
@@ -151,9 +143,6 @@ module _ {states : ℕ} {words first used cs₀ ss₀ : List ℕ} (g : ClearRead
         later_sums = λ k i j. y.others k (λ e. omega arith) ∙ x.later_sums k i (omega arith);
       }
         where
-          unset : is_set used q ≡ false
-          unset = ap (ltb 0) z
-
           count : (a : ℕ) → a < q + 1 → Dec (q ≤ a) → held (set cs q 0) a ≡ (if is_set used a then held cs₀ a else 0)
           count a i (yes h) = let e : a ≡ q = omega arith in rw e (get_or-set_same cs q 0 0 count_here ∙ sym (if_no (is_set used q) (held cs₀ q) 0 unset))
           count a i (no h) = get_or-set_other cs q a 0 0 (λ e. omega arith) ∙ x.counts a (omega arith)
@@ -165,8 +154,8 @@ module _ {states : ℕ} {words first used cs₀ ss₀ : List ℕ} (g : ClearRead
           sum k i j (no h) = y.others k (λ e. omega arith) ∙ x.sums k i (omega arith)
 
       -- a marked one
-      pub clearing_keeps : (get_or used q 0 ≡ 0 → ⊥) → Clearing states words used cs₀ cs ss₀ ss (q + 1)
-      clearing_keeps ne = record {
+      pub clearing_keeps : is_set used q ≡ true → Clearing states words used cs₀ cs ss₀ ss (q + 1)
+      clearing_keeps marked = record {
         within = omega arith;
         cs_long = x.cs_long;
         sums_long = x.sums_long;
@@ -176,9 +165,6 @@ module _ {states : ℕ} {words first used cs₀ ss₀ : List ℕ} (g : ClearRead
         later_sums = λ k i j. x.later_sums k i (omega arith);
       }
         where
-          marked : is_set used q ≡ true
-          marked = lt-ltb 0 (get_or used q 0) (pos_of_ne-zero ne)
-
           count : (a : ℕ) → a < q + 1 → Dec (q ≤ a) → held cs a ≡ (if is_set used a then held cs₀ a else 0)
           count a i (yes h) = let e : a ≡ q = omega arith in rw e (x.later q (omega arith) ∙ sym (if_yes (is_set used q) (held cs₀ q) 0 marked))
           count a i (no h) = x.counts a (omega arith)

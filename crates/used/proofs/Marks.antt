@@ -74,29 +74,29 @@ names_all xs i q a b = same_test (names xs i q) (is_among q xs)
     (λ e. let p = any_some i (λ j. eqb (get_or xs j 0) q) e in place_among q p.0 xs (omega (arith, p.1)) (eqb-true (get_or xs p.0 0) q p.2))
     (λ e. let p = among_place q xs e in any_true i p.0 (λ j. eqb (get_or xs j 0) q) (omega (arith, p.1)) (eq-eqb (get_or xs p.0 0) q p.2))
 
-pub set_mark : (used : List ℕ) (a q : ℕ) → a < length used → is_set (set used a 1) q ≡ (is_set used q || eqb a q)
+pub set_mark : (used : List Bool) (a q : ℕ) → a < length used → is_set (set used a true) q ≡ (is_set used q || eqb a q)
 set_mark used a q l = go (eqb a q) (eqb-true a q) (eqb-false a q)
   where
     yes_or : (b : Bool) → (b || true) ≡ true
     yes_or true = refl
     yes_or false = refl
 
-    go : (b : Bool) → (b ≡ true → a ≡ q) → (b ≡ false → a ≡ q → ⊥) → is_set (set used a 1) q ≡ (is_set used q || b)
-    go true y n = ap (λ (x : ℕ). ltb 0 (get_or (set used a 1) x 0)) (sym (y refl)) ∙ ap (λ (x : ℕ). ltb 0 x) (get_or-set_same used a 1 0 l) ∙ sym (yes_or (is_set used q))
-    go false y n = ap (λ (x : ℕ). ltb 0 x) (get_or-set_other used a q 1 0 (λ e. n refl (sym e))) ∙ or_none (is_set used q)
+    go : (b : Bool) → (b ≡ true → a ≡ q) → (b ≡ false → a ≡ q → ⊥) → is_set (set used a true) q ≡ (is_set used q || b)
+    go true y n = ap (is_set (set used a true)) (sym (y refl)) ∙ get_or-set_same used a true false l ∙ sym (yes_or (is_set used q))
+    go false y n = get_or-set_other used a q true false (λ e. n refl (sym e)) ∙ or_none (is_set used q)
 
 -- nothing is marked yet
-pub marks_begin : (xs used : List ℕ) → MarkedToo (names xs 0) used used
+pub marks_begin : (xs : List ℕ) (used : List Bool) → MarkedToo (names xs 0) used used
 unfolding any_below
 marks_begin xs used = record { long = refl; each = λ q. or_none (is_set used q) }
 
 -- one entry more
-pub marks_go : (xs old used : List ℕ) (i a : ℕ) → a ≡ get_or xs i 0 → a < length old → MarkedToo (names xs i) old used → MarkedToo (names xs (i + 1)) old (set used a 1)
+pub marks_go : (xs : List ℕ) (old used : List Bool) (i a : ℕ) → a ≡ get_or xs i 0 → a < length old → MarkedToo (names xs i) old used → MarkedToo (names xs (i + 1)) old (set used a true)
 unfolding any_below
 marks_go xs old used i a e l m =
     rw (add-one i)
     (record {
-      long = length-set used a 1 ∙ m.long;
+      long = length-set used a true ∙ m.long;
       each = λ q.
           set_mark used a q (omega (arith, m.long))
           ∙ ap (λ (b : Bool). b || eqb a q) (m.each q)
@@ -104,12 +104,12 @@ marks_go xs old used i a e l m =
           ∙ ap (λ (x : ℕ). is_set old q || (names xs i q || eqb x q)) e;
     })
 
-pub marks_end : (xs old used : List ℕ) (i : ℕ) → i ≤ length xs → length xs ≤ i → MarkedToo (names xs i) old used → MarkedToo (λ q. is_among q xs) old used
+pub marks_end : (xs : List ℕ) (old used : List Bool) (i : ℕ) → i ≤ length xs → length xs ≤ i → MarkedToo (names xs i) old used → MarkedToo (λ q. is_among q xs) old used
 marks_end xs old used i a b m = record { long = m.long; each = λ q. m.each q ∙ ap (λ (x : Bool). is_set old q || x) (names_all xs i q a b) }
 
 -- ---- a row: it counts more than 0, or nothing changes
 
-pub row_yes : (cs args old new : List ℕ) (b : Bool) → b ≡ true → b ≡ ltb 0 (product (map (held cs) args)) → MarkedToo (λ q. is_among q args) old new → MarkedToo (row_names cs args) old new
+pub row_yes : (cs args : List ℕ) (old new : List Bool) (b : Bool) → b ≡ true → b ≡ ltb 0 (product (map (held cs) args)) → MarkedToo (λ q. is_among q args) old new → MarkedToo (row_names cs args) old new
 row_yes cs args old new b t e m =
     record { long = m.long; each = λ q. m.each q ∙ ap (λ (x : Bool). is_set old q || x) (and_yes (is_among q args) ∙ ap (λ (x : Bool). is_among q args && x) (sym t ∙ e)) }
   where
@@ -117,7 +117,7 @@ row_yes cs args old new b t e m =
     and_yes true = refl
     and_yes false = refl
 
-pub row_no_lem : (cs args old : List ℕ) (b : Bool) → b ≡ false → b ≡ ltb 0 (product (map (held cs) args)) → MarkedToo (row_names cs args) old old
+pub row_no_lem : (cs args : List ℕ) (old : List Bool) (b : Bool) → b ≡ false → b ≡ ltb 0 (product (map (held cs) args)) → MarkedToo (row_names cs args) old old
 row_no_lem cs args old b t e =
     record { long = refl; each = λ q. or_none (is_set old q) ∙ ap (λ (x : Bool). is_set old q || x) (and_no (is_among q args) ∙ ap (λ (x : Bool). is_among q args && x) (sym t ∙ e)) }
   where
@@ -132,7 +132,7 @@ module _ (accepting cs : List ℕ) where
   abbrev pub listed : (i q : ℕ) → Bool
   listed i q = ltb 0 (held cs q) && names accepting i q
 
-  pub listed_begin : (used : List ℕ) → MarkedToo (listed 0) used used
+  pub listed_begin : (used : List Bool) → MarkedToo (listed 0) used used
   unfolding any_below
   listed_begin used = record { long = refl; each = λ q. or_none (is_set used q) ∙ ap (λ (b : Bool). is_set used q || b) (none (ltb 0 (held cs q))) }
     where
@@ -140,7 +140,7 @@ module _ (accepting cs : List ℕ) where
       none true = refl
       none false = refl
 
-  pub listed_skip : (old used : List ℕ) (i a : ℕ) → a ≡ get_or accepting i 0 → get_or cs a 0 ≡ 0 → MarkedToo (listed i) old used → MarkedToo (listed (i + 1)) old used
+  pub listed_skip : (old used : List Bool) (i a : ℕ) → a ≡ get_or accepting i 0 → get_or cs a 0 ≡ 0 → MarkedToo (listed i) old used → MarkedToo (listed (i + 1)) old used
   unfolding any_below
   listed_skip old used i a e z m =
       rw (add-one i) (record { long = m.long; each = λ q. m.each q ∙ ap (λ (b : Bool). is_set old q || b) (here q (eqb (get_or accepting i 0) q) (eqb-true (get_or accepting i 0) q)) })
@@ -151,12 +151,12 @@ module _ (accepting cs : List ℕ) where
           let n : ltb 0 (held cs q) ≡ false = ap (λ (x : ℕ). ltb 0 (get_or cs x 0)) (sym (e ∙ y refl)) ∙ ap (ltb 0) z in
           rw n
 
-  pub listed_go : (old used : List ℕ) (i a : ℕ) → a ≡ get_or accepting i 0 → a < length old → (get_or cs a 0 ≡ 0 → ⊥) → MarkedToo (listed i) old used → MarkedToo (listed (i + 1)) old (set used a 1)
+  pub listed_go : (old used : List Bool) (i a : ℕ) → a ≡ get_or accepting i 0 → a < length old → (get_or cs a 0 ≡ 0 → ⊥) → MarkedToo (listed i) old used → MarkedToo (listed (i + 1)) old (set used a true)
   unfolding any_below
   listed_go old used i a e l z m =
       rw (add-one i)
       (record {
-        long = length-set used a 1 ∙ m.long;
+        long = length-set used a true ∙ m.long;
         each = λ q.
             set_mark used a q (omega (arith, m.long))
             ∙ ap (λ (b : Bool). b || eqb a q) (m.each q)
@@ -183,30 +183,30 @@ module _ (accepting cs : List ℕ) where
           let n : ltb 0 (held cs q) ≡ true = ap (λ (x : ℕ). ltb 0 (get_or cs x 0)) (sym (e ∙ y refl)) ∙ lt-ltb 0 (get_or cs a 0) (pos_of_ne-zero z) in
           rw n (yes (is_set old q) (names accepting i q))
 
-  pub listed_end : (old used : List ℕ) (i : ℕ) → i ≤ length accepting → length accepting ≤ i → MarkedToo (listed i) old used → MarkedToo (listed_by accepting cs) old used
+  pub listed_end : (old used : List Bool) (i : ℕ) → i ≤ length accepting → length accepting ≤ i → MarkedToo (listed i) old used → MarkedToo (listed_by accepting cs) old used
   listed_end old used i a b m =
       record { long = m.long; each = λ q. m.each q ∙ ap (λ (x : Bool). is_set old q || (ltb 0 (held cs q) && x)) (names_all accepting i q a b) }
 
 -- ---- the state that is next to mark
 
-pub all_marked_none : (cs used : List ℕ) → AllMarked cs used 0
+pub all_marked_none : (cs : List ℕ) (used : List Bool) → AllMarked cs used 0
 all_marked_none cs used = record { marked = λ a l p. absurd (omega arith) }
 
-one_more : (cs used : List ℕ) (n : ℕ) → AllMarked cs used n → (0 < held cs n → is_set used n ≡ true) → AllMarked cs used (n + 1)
+one_more : (cs : List ℕ) (used : List Bool) (n : ℕ) → AllMarked cs used n → (0 < held cs n → is_set used n ≡ true) → AllMarked cs used (n + 1)
 one_more cs used n s h = record { marked = λ a l p. go a p (dec_le n a) l }
   where
     go : (a : ℕ) → 0 < held cs a → Dec (n ≤ a) → a < n + 1 → is_set used a ≡ true
     go a p (yes y) l = let e : a ≡ n = omega arith in rw e (h (rw (← e) p))
     go a p (no y) l = let k : a < n = omega arith in s.marked a k p
 
-pub passes_empty : (cs used : List ℕ) (n : ℕ) → AllMarked cs used n → get_or cs n 0 ≡ 0 → AllMarked cs used (n + 1)
+pub passes_empty : (cs : List ℕ) (used : List Bool) (n : ℕ) → AllMarked cs used n → get_or cs n 0 ≡ 0 → AllMarked cs used (n + 1)
 passes_empty cs used n s z = one_more cs used n s (λ p. absurd (omega arith))
 
-pub passes_marked : (cs used : List ℕ) (n : ℕ) → AllMarked cs used n → (get_or used n 0 ≡ 0 → ⊥) → AllMarked cs used (n + 1)
-passes_marked cs used n s ne = one_more cs used n s (λ p. lt-ltb 0 (get_or used n 0) (pos_of_ne-zero ne))
+pub passes_marked : (cs : List ℕ) (used : List Bool) (n : ℕ) → AllMarked cs used n → is_set used n ≡ true → AllMarked cs used (n + 1)
+passes_marked cs used n s m = one_more cs used n s (λ p. m)
 
 -- marks only grow
-pub marked_stays : (cs old used : List ℕ) (n : ℕ) (p : ℕ → Bool) → MarkedToo p old used → AllMarked cs old n → AllMarked cs used n
+pub marked_stays : (cs : List ℕ) (old used : List Bool) (n : ℕ) (p : ℕ → Bool) → MarkedToo p old used → AllMarked cs old n → AllMarked cs used n
 marked_stays cs old used n p m s = record { marked = λ a l h. m.each a ∙ or_left (is_set old a) (p a) (s.marked a l h) }
 
 -- a row whose arguments have trees counts more than 0

@@ -5,13 +5,12 @@ use mathlib.Core.Path.{◌≡◌, refl, sym, ap, ◌∙◌}
 use mathlib.Core.Bool.{Bool, true, false, ◌&&◌, ◌||◌}
 use mathlib.Core.List.{List}
 use mathlib.Core.Logic.{◌⊎◌, inl, inr}
-use native.Mathlib.Nat.{pos_of_ne-zero}
 use native.Mathlib.Decide.{dec_le}
 use native.Mathlib.Omega.{arith}
 use lib.ListN.{length, get_or, take, get_or-eq_default}
 use lib.Seq.{length-take-le, get_or-take}
 use lib.Dec.{eqb, ltb, leb}
-use borrow.Author.Tests.{eqb-true, lt-ltb, ltb-true}
+use borrow.Author.Tests.{eqb-true, ltb-true}
 use Rattle.model.specs.Choice.{any_below}
 use Rattle.model.specs.Table.{Table, Row, no_row}
 use Rattle.model.specs.Count.{row_counts, count}
@@ -89,7 +88,7 @@ named_low states rows order cs k a le = any_none (length rows) (named_row rows c
 -- ---- the pass
 
 -- what the loop holds when the states from m on have had their turns
-pub record Passing (states : ℕ) (pool accepting words cs begun used : List ℕ) (m n : ℕ) : Type 0 where
+pub record Passing (states : ℕ) (pool accepting words cs : List ℕ) (begun used : List Bool) (m n : ℕ) : Type 0 where
   pub low : m ≤ states
   pub long : length used ≡ length begun
   pub each : (a : ℕ) → is_set used a ≡ used_since (held_table states pool words accepting) (held cs) (is_set used) m a
@@ -97,7 +96,7 @@ pub record Passing (states : ℕ) (pool accepting words cs begun used : List ℕ
   pub below : n ≤ m
 
 -- the counts of the states alone will do: what is no state counts 0
-pub of_states : {states : ℕ} {pool accepting words first cs used : List ℕ} → PassReady states pool accepting words first cs used
+pub of_states : {states : ℕ} {pool accepting words first cs : List ℕ} {used : List Bool} → PassReady states pool accepting words first cs used
     → PassReady states pool accepting words first (take states cs) used
 of_states {states} {pool} {accepting} {words} {cs = cs} g = record {
   ordered = g.ordered;
@@ -119,7 +118,7 @@ of_states {states} {pool} {accepting} {words} {cs = cs} g = record {
     go a (yes l) = ap (ltb 0) (get_or-eq_default (take states cs) 0 (omega (arith, whole)) ∙ sym (count_beyond T a l))
     go a (no h) = ap (ltb 0) (get_or-take states cs a 0 (omega arith)) ∙ g.alike a
 
-module _ {states : ℕ} {pool accepting words first cs used₀ : List ℕ} (g : PassReady states pool accepting words first cs used₀) where
+module _ {states : ℕ} {pool accepting words first cs : List ℕ} {used₀ : List Bool} (g : PassReady states pool accepting words first cs used₀) where
   abbrev T : Table
   T = held_table states pool words accepting
 
@@ -132,22 +131,22 @@ module _ {states : ℕ} {pool accepting words first cs used₀ : List ℕ} (g : 
     marked = record { placed = λ k l. omega (arith, g.listed.placed k l, g.used_room) };
   }
 
-  pub look_begins : (used : List ℕ) → MarkedToo (listed_by accepting cs) used₀ used → PassedBy cs used 0 states
+  pub look_begins : (used : List Bool) → MarkedToo (listed_by accepting cs) used₀ used → PassedBy cs used 0 states
   look_begins used m = record { passed = all_marked_none cs used; low = omega arith; counted = g.cs_room; room = omega (arith, g.used_room, m.long) }
 
-  pub passing_begins : (used : List ℕ) (n : ℕ) → MarkedToo (listed_by accepting cs) used₀ used → AllMarked cs used n × (n ≤ states) → Passing states pool accepting words cs used used states n
+  pub passing_begins : (used : List Bool) (n : ℕ) → MarkedToo (listed_by accepting cs) used₀ used → AllMarked cs used n × (n ≤ states) → Passing states pool accepting words cs used used states n
   passing_begins used n m s = record {
     low = omega arith;
     long = refl;
     each = λ a.
         m.each a
-        ∙ ap (λ (k : ℕ). ltb 0 k || listed_by accepting cs a) (g.blank a)
+        ∙ ap (λ (b : Bool). b || listed_by accepting cs a) (g.blank a)
         ∙ sym (since_listed T (held cs) (is_set used) g.ordered.known a);
     passed = s.0;
     below = s.1;
   }
 
-  module _ {begun used : List ℕ} {m n : ℕ} (b : MarkedToo (listed_by accepting cs) used₀ begun) (x : Passing states pool accepting words cs begun used m n) where
+  module _ {begun used : List Bool} {m n : ℕ} (b : MarkedToo (listed_by accepting cs) used₀ begun) (x : Passing states pool accepting words cs begun used m n) where
     pub mark_here : n < m → m - 1 < length used
     mark_here l = omega (arith, x.low, x.long, b.long, g.used_room)
 
@@ -162,14 +161,14 @@ module _ {states : ℕ} {pool accepting words first cs used₀ : List ℕ} (g : 
     since_before l u a = let e : m ≡ suc (m - 1) = omega arith in ap (λ (k : ℕ). used_since T (held cs) u k a) e
 
     -- a used state's turn
-    pub passing_goes : n < m → (used' : List ℕ) (n' : ℕ) → (get_or used (m - 1) 0 ≡ 0 → ⊥) → Turned rows cs (m - 1) used used' n' → Passing states pool accepting words cs begun used' (m - 1) n'
-    passing_goes l used' n' ne t = record {
+    pub passing_goes : n < m → (used' : List Bool) (n' : ℕ) → is_set used (m - 1) ≡ true → Turned rows cs (m - 1) used used' n' → Passing states pool accepting words cs begun used' (m - 1) n'
+    passing_goes l used' n' y t = record {
       low = omega (arith, x.low);
       long = t.marked.long ∙ x.long;
       each = λ a.
           t.marked.each a
           ∙ ap (λ (b : Bool). b || named_for rows cs k a) (x.each a ∙ since_before l (is_set used) a ∙ since_local T (held cs) (is_set used) (is_set used') (suc k) a (λ q i. sym (stays q (omega arith))))
-          ∙ ap (λ (b : Bool). used_since T (held cs) (is_set used') (suc k) a || (b && named_for rows cs k a)) (sym (stays k (omega arith) ∙ lt-ltb 0 (get_or used k 0) (pos_of_ne-zero ne)))
+          ∙ ap (λ (b : Bool). used_since T (held cs) (is_set used') (suc k) a || (b && named_for rows cs k a)) (sym (stays k (omega arith) ∙ y))
           ∙ sym (since_next T (held cs) (is_set used') k a);
       passed = t.passed;
       below = t.low;
@@ -182,7 +181,7 @@ module _ {states : ℕ} {pool accepting words first cs used₀ : List ℕ} (g : 
         stays q i = t.marked.each q ∙ ap (λ (b : Bool). is_set used q || b) (named_low states rows g.ordered cs (m - 1) q i) ∙ sym (or_none (is_set used q))
 
     -- an unused one's
-    pub passing_skips : n < m → get_or used (m - 1) 0 ≡ 0 → Passing states pool accepting words cs begun used (m - 1) n
+    pub passing_skips : n < m → is_set used (m - 1) ≡ false → Passing states pool accepting words cs begun used (m - 1) n
     passing_skips l z = record {
       low = omega (arith, x.low);
       long = x.long;
@@ -190,7 +189,7 @@ module _ {states : ℕ} {pool accepting words first cs used₀ : List ℕ} (g : 
           x.each a
           ∙ since_before l (is_set used) a
           ∙ or_none (used_since T (held cs) (is_set used) (suc (m - 1)) a)
-          ∙ ap (λ (k : ℕ). used_since T (held cs) (is_set used) (suc (m - 1)) a || (ltb 0 k && named_for rows cs (m - 1) a)) (sym z)
+          ∙ ap (λ (b : Bool). used_since T (held cs) (is_set used) (suc (m - 1)) a || (b && named_for rows cs (m - 1) a)) (sym z)
           ∙ sym (since_next T (held cs) (is_set used) (m - 1) a);
       passed = x.passed;
       below = omega arith;

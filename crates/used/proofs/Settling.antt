@@ -39,7 +39,7 @@ use Rattle.used.proofs.Beyond.{ground_fine}
 
 -- ---- what is held when used states are held to the limits
 
-module _ {states : ℕ} {pool accepting words first cs ms used₀ ss : List ℕ} (g : SettleReady states pool accepting words first cs ms used₀ ss) where
+module _ {states : ℕ} {pool accepting words first cs ms : List ℕ} {used₀ : List Bool} {ss : List ℕ} (g : SettleReady states pool accepting words first cs ms used₀ ss) where
   abbrev T : Table
   T = held_table states pool words accepting
 
@@ -110,7 +110,7 @@ module _ {states : ℕ} {pool accepting words first cs ms used₀ ss : List ℕ}
 
   -- ---- the used states are found
 
-  module _ {used : List ℕ} (u : FoundUsed states pool accepting words used₀ used) where
+  module _ {used : List Bool} (u : FoundUsed states pool accepting words used₀ used) where
     pub fault_ready : (from : ℕ) → FaultFrom states ms from → FaultReady states ms used from
     fault_ready from f = record { room = g.room.ms_room; used_room = omega (arith, g.room.used_room, u.long); before = f }
 

@@ -15,13 +15,13 @@ use Rattle.model.specs.Count.{product}
 use Rattle.model.specs.Reach.{is_among}
 use Rattle.model.proofs.Choice.{and_true, or_true, or_left, or_right, any_true, any_some}
 use Rattle.model.proofs.Used.{among_place}
-use Rattle.rows.specs.Words.{after_in, args_in, rows_in, row_no, afters, Inside, Held}
-use Rattle.counts.specs.Chain.{target, leads, TargetLink, Chained}
+use Rattle.rows.specs.Words.{args_in, rows_in, row_no, afters}
+use Rattle.counts.specs.Chain.{target, leads, TargetLink, Chained, Comes}
 use Rattle.counts.specs.States.{held}
 use Rattle.counts.proofs.Chain.{leads_row, leads_end}
 use Rattle.used.specs.Marked.{is_set, Placed, RowPlaced, MarkedToo, row_names, named_row, named_for, AllMarked, PassedBy, TurnReady, Turned}
 use Rattle.used.proofs.Marks.{same_test, or_none, or_assoc, marked_stays}
-use Rattle.used.proofs.Walk.{AtRow, at_link, leads_within, row_here, args_here, link_next, link_further}
+use Rattle.used.proofs.Walk.{AtRow, at_link, leads_within, row_here, mine_here, args_here, link_next}
 
 -- ---- rows between that are of other targets
 
@@ -59,7 +59,7 @@ factor_some c (x ∷ xs) (suc k) l p = factor_some c xs k (omega arith) (go (eq-
 
 -- ---- the rows before the one that the link leads to are taken, and the states below n that have trees are marked
 
-pub record Taking (rows : List Row) (cs : List ℕ) (q : ℕ) (old used : List ℕ) (n p : ℕ) : Type 0 where
+pub record Taking (rows : List Row) (cs : List ℕ) (q : ℕ) (old used : List Bool) (n p : ℕ) : Type 0 where
   pub at_row : AtRow rows q p
   pub marked : MarkedToo (λ a. any_below (leads p (length rows)) (named_row rows cs q a)) old used
   pub passed : AllMarked cs used n
@@ -72,7 +72,7 @@ module _ (rows : List Row) (cs : List ℕ) (q : ℕ) where
       none : (k : ℕ) → i ≤ k → k < leads p (length rows) → named_row rows cs q a k ≡ false
       none k l m = rw (ne_eqb (target rows k) q (t.gap k l m))
 
-  taking_begins : (used : List ℕ) (n p : ℕ) → AllMarked cs used n → n ≤ q → TargetLink rows q 0 (length rows) p → Taking rows cs q used used n p
+  taking_begins : (used : List Bool) (n p : ℕ) → AllMarked cs used n → n ≤ q → TargetLink rows q 0 (length rows) p → Taking rows cs q used used n p
   taking_begins used n p s l t = record {
     at_row = at_link p t;
     marked = record { long = refl; each = λ a. or_none (is_set used a) ∙ ap (λ (b : Bool). is_set used a || b) (sym (skip 0 p a t ∙ any_zero (named_row rows cs q a))) };
@@ -80,27 +80,26 @@ module _ (rows : List Row) (cs : List ℕ) (q : ℕ) where
     low = l;
   }
 
-  taking_goes : (old used used' : List ℕ) (n n' p p' : ℕ) → Taking rows cs q old used n p → 0 < p → MarkedToo (row_names cs (row_no rows (p - 1)).args) used used'
-      → AllMarked cs used' n' → n' ≤ q → TargetLink rows q (suc (p - 1)) (length rows) p' → Taking rows cs q old used' n' p'
-  taking_goes old used used' n n' p p' x l m s le t = record {
+  taking_goes : (old used used' : List Bool) (n n' p r p' : ℕ) → Taking rows cs q old used n p → (1 ≤ p) × (r ≡ p - 1) → MarkedToo (row_names cs (row_no rows r).args) used used'
+      → AllMarked cs used' n' → n' ≤ q → TargetLink rows q (suc r) (length rows) p' → Taking rows cs q old used' n' p'
+  taking_goes old used used' n n' p r p' x l m s le t = record {
     at_row = at_link p' t;
     marked = record {
       long = m.long ∙ x.marked.long;
       each = λ a.
           m.each a
-          ∙ ap (λ (b : Bool). b || row_names cs (row_no rows (p - 1)).args a)
-          (x.marked.each a ∙ ap (λ (k : ℕ). is_set old a || any_below k (named_row rows cs q a)) (leads_row p (length rows) l))
-          ∙ or_assoc (is_set old a) (any_below (p - 1) (named_row rows cs q a)) (row_names cs (row_no rows (p - 1)).args a)
-          ∙ ap (λ (b : Bool). is_set old a || (any_below (p - 1) (named_row rows cs q a) || (b && row_names cs (row_no rows (p - 1)).args a))) (sym (eq-eqb (target rows (p - 1)) q (x.at_row.mine l)))
-          ∙ ap (λ (b : Bool). is_set old a || b) (sym (any_suc (p - 1) (named_row rows cs q a)) ∙ sym (skip (suc (p - 1)) p' a t));
+          ∙ ap (λ (b : Bool). b || row_names cs (row_no rows r).args a)
+          (x.marked.each a ∙ ap (λ (k : ℕ). is_set old a || any_below k (named_row rows cs q a)) (leads_row p (length rows) l.0 ∙ sym l.1))
+          ∙ or_assoc (is_set old a) (any_below r (named_row rows cs q a)) (row_names cs (row_no rows r).args a)
+          ∙ ap (λ (b : Bool). is_set old a || (any_below r (named_row rows cs q a) || (b && row_names cs (row_no rows r).args a))) (sym (eq-eqb (target rows r) q (rw l.1 (x.at_row.mine l.0))))
+          ∙ ap (λ (b : Bool). is_set old a || b) (sym (any_suc r (named_row rows cs q a)) ∙ sym (skip (suc r) p' a t));
     };
     passed = s;
     low = le;
   }
 
-  pub taking_ends : (old used : List ℕ) (n p : ℕ) → Taking rows cs q old used n p → p ≤ 0 → Turned rows cs q old used n
-  taking_ends old used n p x l =
-      let z : p ≡ 0 = omega arith in
+  pub taking_ends : (old used : List Bool) (n p : ℕ) → Taking rows cs q old used n p → p ≡ 0 → Turned rows cs q old used n
+  taking_ends old used n p x z =
       record {
         marked = record { long = x.marked.long; each = λ a. x.marked.each a ∙ ap (λ (k : ℕ). is_set old a || any_below k (named_row rows cs q a)) (ap (λ (k : ℕ). leads k (length rows)) z ∙ leads_end (length rows)) };
         passed = x.passed;
@@ -121,7 +120,7 @@ module _ (rows : List Row) (cs : List ℕ) (q : ℕ) where
         rw (← z.2) (factor_some (held cs) (row_no rows r).args z.0 z.1 (ltb-true 0 (product (map (held cs) (row_no rows r).args)) y.1)),
       )
 
-  pub turn_enough : (old used : List ℕ) (n p : ℕ) → ((r : ℕ) → r < length rows → target rows r ≡ q → Placed q (row_no rows r).args)
+  pub turn_enough : (old used : List Bool) (n p : ℕ) → ((r : ℕ) → r < length rows → target rows r ≡ q → Placed q (row_no rows r).args)
       → Taking rows cs q old used n p → q ≤ n → Turned rows cs q old used n
   turn_enough old used n p lower t le =
       record {
@@ -148,7 +147,7 @@ module _ (rows : List Row) (cs : List ℕ) (q : ℕ) where
 
 -- ---- as the code has it
 
-module _ {pool words first cs old : List ℕ} {low q : ℕ} (held_rows : Held pool words (length words))
+module _ (pool words : List ℕ) {first cs : List ℕ} {old : List Bool} {low q : ℕ}
     (chained : Chained (rows_in pool words) first (afters words)) (g : TurnReady (rows_in pool words) first cs old low q) where
   abbrev rows : List Row
   rows = rows_in pool words
@@ -156,26 +155,17 @@ module _ {pool words first cs old : List ℕ} {low q : ℕ} (held_rows : Held po
   pub turn_begins : (p : ℕ) → p ≡ get_or first q 0 → Taking rows cs q old old low p
   turn_begins p e = taking_begins rows cs q old low p g.passed.passed g.passed.low (rw e (chained.firsts q g.state))
 
-  module _ {used : List ℕ} {n p : ℕ} (x : Taking rows cs q old used n p) where
+  module _ {used : List Bool} {n p : ℕ} (x : Taking rows cs q old used n p) where
     pub turn_stops : q ≤ n → Turned rows cs q old used n
     turn_stops le = turn_enough rows cs q old used n p g.lower x le
 
-    module _ (pos : 0 < p) where
-      pub word_here : p - 1 < length words
-      word_here = row_here pool words chained x.at_row pos
-
-      pub inside_here : Inside pool (get_or words (p - 1) 0)
-      inside_here = held_rows.inside (p - 1) word_here
-
-      pub turn_further : (p' : ℕ) → p' ≡ after_in (get_or words (p - 1) 0) → length rows - leads p' (length rows) < length rows - leads p (length rows)
-      turn_further = link_further pool words chained x.at_row pos
-
-      module _ (args : List ℕ) (is : args ≡ args_in pool (get_or words (p - 1) 0)) where
-        same : args ≡ (row_no rows (p - 1)).args
-        same = is ∙ sym (args_here pool words chained x.at_row pos)
+    module _ {r word p' : ℕ} (g' : Comes words p r word p') where
+      module _ (args : List ℕ) (is : args ≡ args_in pool word) where
+        same : args ≡ (row_no rows r).args
+        same = is ∙ sym (args_here pool words chained x.at_row g')
 
         placed : Placed q args
-        placed = rw same (g.lower (p - 1) (x.at_row.inside pos) (x.at_row.mine pos))
+        placed = rw same (g.lower r (row_here pool words chained x.at_row g') (mine_here pool words chained x.at_row g'))
 
         pub row_placed : RowPlaced args cs used
         row_placed = record {
@@ -183,7 +173,7 @@ module _ {pool words first cs old : List ℕ} {low q : ℕ} (held_rows : Held po
           marked = record { placed = λ k l. omega (arith, placed.placed k l, g.passed.room, x.marked.long) };
         }
 
-        module _ (used' : List ℕ) (m : MarkedToo (row_names cs args) used used') where
+        module _ (used' : List Bool) (m : MarkedToo (row_names cs args) used used') where
           pub look_ready : PassedBy cs used' n q
           look_ready = record {
             passed = marked_stays cs used used' n (row_names cs args) m x.passed;
@@ -192,5 +182,5 @@ module _ {pool words first cs old : List ℕ} {low q : ℕ} (held_rows : Held po
             room = omega (arith, g.passed.room, m.long, x.marked.long);
           }
 
-          pub turn_goes : (n' p' : ℕ) → AllMarked cs used' n' × (n' ≤ q) → p' ≡ after_in (get_or words (p - 1) 0) → Taking rows cs q old used' n' p'
-          turn_goes n' p' s e = taking_goes rows cs q old used used' n n' p p' x pos (rw same at m) s.0 s.1 (link_next pool words chained x.at_row pos p' e)
+          pub turn_goes : (n' : ℕ) → AllMarked cs used' n' × (n' ≤ q) → Taking rows cs q old used' n' p'
+          turn_goes n' s = taking_goes rows cs q old used used' n n' p r p' x g'.here (rw same at m) s.0 s.1 (link_next pool words chained x.at_row g')

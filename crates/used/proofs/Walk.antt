@@ -1,14 +1,14 @@
 -- The rows of one target, taken along their chain. Assumes nothing.
 use Prim.Native.Nat.{ℕ, zero, suc, ◌-◌, ◌<◌, ◌≤◌}
-use mathlib.Core.Path.{◌≡◌, ap}
+use mathlib.Core.Path.{◌≡◌, sym, ap, ◌∙◌}
 use mathlib.Core.List.{List}
 use native.Mathlib.Omega.{arith}
 use lib.ListN.{length, get_or}
 use Rattle.model.specs.Table.{Row}
 use Rattle.model.proofs.Counting.{get_d_map}
 use Rattle.rows.specs.Words.{after_in, args_in, target_in, rows_in, row_no, afters}
-use Rattle.rows.proofs.Words.{rows_long, row_held_lem}
-use Rattle.counts.specs.Chain.{target, leads, TargetLink, Chained}
+use Rattle.rows.proofs.Words.{row_held_lem}
+use Rattle.counts.specs.Chain.{target, leads, TargetLink, Chained, Comes}
 use Rattle.counts.proofs.Chain.{leads_row, leads_end}
 
 -- the link leads to a row of the state, or to none
@@ -27,20 +27,16 @@ leads_within {rows} (suc p) a = rw (leads_row (suc p) (length rows) (omega arith
 pub target_word : (pool words : List ℕ) (k : ℕ) → k < length words → target (rows_in pool words) k ≡ target_in (get_or words k 0)
 target_word pool words k l = ap (λ (r : Row). r.target) (row_held_lem pool words k l)
 
-module _ (pool words : List ℕ) {first : List ℕ} {q p : ℕ} (chained : Chained (rows_in pool words) first (afters words)) (a : AtRow (rows_in pool words) q p) (pos : 0 < p) where
-  pub row_here : p - 1 < length words
-  row_here = rw (rows_long pool words) at (a.inside pos)
+module _ (pool words : List ℕ) {first : List ℕ} {q p r word p' : ℕ} (chained : Chained (rows_in pool words) first (afters words)) (a : AtRow (rows_in pool words) q p)
+    (g : Comes words p r word p') where
+  pub row_here : r < length (rows_in pool words)
+  row_here = rw g.here.1 (a.inside g.here.0)
 
-  pub args_here : (row_no (rows_in pool words) (p - 1)).args ≡ args_in pool (get_or words (p - 1) 0)
-  args_here = ap (λ (r : Row). r.args) (row_held_lem pool words (p - 1) row_here)
+  pub mine_here : target (rows_in pool words) r ≡ q
+  mine_here = rw g.here.1 (a.mine g.here.0)
 
-  link_here : TargetLink (rows_in pool words) q (suc (p - 1)) (length (rows_in pool words)) (after_in (get_or words (p - 1) 0))
-  link_here = rw (a.mine pos, get_d_map after_in words (p - 1) 0 0 row_here) at (chained.afters (p - 1) (omega arith) (a.inside pos))
+  pub args_here : (row_no (rows_in pool words) r).args ≡ args_in pool word
+  args_here = ap (λ (r : Row). r.args) (row_held_lem pool words r g.inside) ∙ ap (args_in pool) (sym g.held)
 
-  pub link_next : (p' : ℕ) → p' ≡ after_in (get_or words (p - 1) 0) → TargetLink (rows_in pool words) q (suc (p - 1)) (length (rows_in pool words)) p'
-  link_next p' e = rw e link_here
-
-  -- it leads further
-  pub link_further : (p' : ℕ) → p' ≡ after_in (get_or words (p - 1) 0)
-      → length (rows_in pool words) - leads p' (length (rows_in pool words)) < length (rows_in pool words) - leads p (length (rows_in pool words))
-  link_further p' e = rw e (omega (arith, a.inside pos, link_here.from, link_here.within, leads_row p (length (rows_in pool words)) pos))
+  pub link_next : TargetLink (rows_in pool words) q (suc r) (length (rows_in pool words)) p'
+  link_next = rw (g.next, g.held) (rw (mine_here, get_d_map after_in words r 0 0 g.inside) at (chained.afters r (omega arith) row_here))

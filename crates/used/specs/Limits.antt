@@ -1,5 +1,5 @@
 -- The limits on counts and longest trees, of all states and of used ones. Assumes nothing: these are definitions.
-use Rattle.std.specs.Prelude.{ℕ, ◌<◌, ◌≤◌, min, ◌≡◌, List, length, ltb, Option, Some, None}
+use Rattle.std.specs.Prelude.{ℕ, Bool, ◌<◌, ◌≤◌, min, ◌≡◌, List, length, ltb, Option, Some, None}
 use Rattle.model.specs.declared.Kind.{Kind}
 use Rattle.model.specs.Answers.{kind_number}
 use Rattle.model.specs.Table.{Table}
@@ -38,7 +38,7 @@ pub record FaultFrom (states : ℕ) (ms : List ℕ) (from : ℕ) : Type 0 where
   pub fine : (T : Table) → T.states ≡ states → Measures T ms → FineFrom T 0 from
 
 -- what the first used state beyond a limit is looked for from
-pub record FaultReady (states : ℕ) (ms used : List ℕ) (from : ℕ) : Type 0 where
+pub record FaultReady (states : ℕ) (ms : List ℕ) (used : List Bool) (from : ℕ) : Type 0 where
   pub room : states ≤ length ms
   pub used_room : states ≤ length used
   pub before : FaultFrom states ms from
@@ -49,5 +49,5 @@ pub record FaultFound (n : ℕ) (ground_of : ℕ → ℕ) (r : Option (ℕ × Ki
   pub fine : r ≡ None → AllFine n ground_of
 
 -- of every table whose marks and used states these are: the first used state that is beyond a limit, or there is none
-pub record FirstUsed (states : ℕ) (ms used : List ℕ) (r : Option (ℕ × Kind)) : Type 0 where
+pub record FirstUsed (states : ℕ) (ms : List ℕ) (used : List Bool) (r : Option (ℕ × Kind)) : Type 0 where
   pub found : (T : Table) → T.states ≡ states → Measures T ms → ((q : ℕ) → is_set used q ≡ is_used T q) → FaultFound states (state_ground count_limit T) r

@@ -5,15 +5,14 @@ ghost use Rattle.std.specs.Prelude.{◌≡◌, ◌<◌, ◌≤◌, true, map, le
 ghost use Rattle.std.proofs.Props.{props};
 ghost use Rattle.model.specs.Count.{product};
 ghost use Rattle.model.specs.Reach.{is_among};
-ghost use Rattle.rows.specs.Words.{rows_in};
+ghost use Rattle.rows.specs.Listed.{all_rows};
 ghost use Rattle.counts.specs.States.{held};
 ghost use Rattle.used.specs.Marked.{Placed, NoneEmpty, MarkedToo, RowPlaced, row_names, listed_by, AllMarked, PassedBy, TurnReady, Turned, PassReady, FoundUsed};
 ghost use Rattle.used.specs.Limits.{BeyondFrom, FaultFrom, FaultReady, FirstUsed};
 ghost use Rattle.used.specs.Settled.{RowsChained, RowsCleared, ClearReady, Cleared, SettleReady, Settled};
 
-use counts::ByTarget;
+use counts::{ByTarget, RowsOfState};
 use model::{Kind, Refusal};
-use rows::Rows;
 
 // The most entries that a state's longest tree may have.
 const LENGTH_LIMIT: u64 = 4096;
@@ -35,36 +34,36 @@ fn none_empty(counts: &[u64]) -> bool
 
 // Marks the states of a list.
 // (Beside mark_listed: one function for both would take the test as a closure, longer than the loop that it saves.)
-fn mark_args(args: &[u16], used: &mut [u8])
+fn mark_args(args: &[u16], used: &mut [bool])
     requires { Placed (length used.old) args.now }
     ensures { MarkedToo (λ q. is_among q args.now) used.old used.new }
 {
     for a in args {
-        used[usize::from(*a)] = 1;
+        used[usize::from(*a)] = true;
     }
 }
 
 // Marks the listed states that have trees.
 #[tactic(auto, using(crate::proofs::Marks::listed_begin, crate::proofs::Marks::listed_skip, crate::proofs::Marks::listed_go, crate::proofs::Marks::listed_end))]
-fn mark_listed(accepting: &[u16], counts: &[u64], used: &mut [u8])
+fn mark_listed(accepting: &[u16], counts: &[u64], used: &mut [bool])
     requires { RowPlaced accepting.now counts.now used.old }
     ensures { MarkedToo (listed_by accepting.now counts.now) used.old used.new }
 {
     for a in accepting {
         let q = usize::from(*a);
         if counts[q] != 0 {
-            used[q] = 1;
+            used[q] = true;
         }
     }
 }
 
 // The first state from `low` on, and below m, that has trees and no mark; or m.
-fn pass_marked(counts: &[u64], used: &[u8], low: usize, m: usize) -> usize
+fn pass_marked(counts: &[u64], used: &[bool], low: usize, m: usize) -> usize
     requires { PassedBy counts.now used.now low m }
     ensures { AllMarked counts.now used.now result × (result ≤ m) }
 {
     for n in low..m {
-        if counts[n] != 0 && used[n] == 0 {
+        if counts[n] != 0 && !used[n] {
             return n;
         }
     }
@@ -90,7 +89,7 @@ impl Counts<'_> {
     }
 
     // Marks the arguments of a row, if it counts more than 0.
-    fn mark_row(&self, args: &[u16], used: &mut [u8])
+    fn mark_row(&self, args: &[u16], used: &mut [bool])
         requires { RowPlaced args.now self.now.counts.now used.old }
         ensures { MarkedToo (row_names self.now.counts.now args.now) used.old used.new }
     {
@@ -101,24 +100,20 @@ impl Counts<'_> {
 
     // Marks the arguments of the rows of state q that count more than 0, up to the row after which every state below q that has trees is
     // marked.
-    fn mark_rows(&self, by_target: &ByTarget, used: &mut [u8], low: usize, q: usize) -> usize
-        requires { TurnReady (rows_in by_target.now.rows.pool.now by_target.now.rows.words.now) by_target.now.first.now
+    fn mark_rows(&self, by_target: &ByTarget, used: &mut [bool], low: usize, q: usize) -> usize
+        requires { TurnReady (all_rows by_target.now.rows) by_target.now.first.now
             self.now.counts.now used.old low q }
-        ensures { Turned (rows_in by_target.now.rows.pool.now by_target.now.rows.words.now) self.now.counts.now q
+        ensures { Turned (all_rows by_target.now.rows) self.now.counts.now q
             used.old used.new result }
     {
-        let Rows { pool, words } = by_target.rows;
         let mut n = low;
-        let mut p = usize::from(by_target.first[q]);
-        while 0 < p {
+        for (_, word) in by_target.rows_of(q) {
             if q <= n {
                 return n;
             }
-            let word = words[p - 1];
-            let args = rows::args_in(pool, word);
+            let args = rows::args_in(by_target.rows.pool, word);
             self.mark_row(args, used);
             n = pass_marked(self.counts, used, n, q);
-            p = rows::after_in(word);
         }
         n
     }
@@ -131,7 +126,7 @@ pub fn find_used(
     accepting: &[u16],
     by_target: &ByTarget,
     counts: &[u64],
-    used: &mut [u8],
+    used: &mut [bool],
 )
     requires { PassReady states by_target.now.rows.pool.now accepting.now by_target.now.rows.words.now by_target.now.first.now
         counts.now used.old }
@@ -148,7 +143,7 @@ pub fn find_used(
         if m < n {
             break;
         }
-        if used[m] != 0 {
+        if used[m] {
             n = known.mark_rows(by_target, used, n, m);
         }
     }
@@ -181,13 +176,18 @@ fn first_place(states: usize, marks: &[u64]) -> usize
 }
 
 // The first used state from `from` on that is beyond a limit, where no state before that is.
-pub fn first_fault(states: usize, marks: &[u64], used: &[u8], from: usize) -> Option<(usize, Kind)>
+pub fn first_fault(
+    states: usize,
+    marks: &[u64],
+    used: &[bool],
+    from: usize,
+) -> Option<(usize, Kind)>
     requires { FaultReady states marks.now used.now from }
     ensures { FirstUsed states marks.now used.now result }
 {
     let mut q = from;
     while let Some((a, kind)) = first_beyond(states, marks, q) {
-        if used[a] != 0 {
+        if used[a] {
             return Some((a, kind));
         }
         q = a + 1;
@@ -201,10 +201,12 @@ fn clear_rows(words: &[u64], first: &[u16], sums: &mut [u64], q: usize)
     requires { RowsChained words.now first.now sums.old q }
     ensures { RowsCleared words.now q sums.old sums.new }
 {
-    let mut p = usize::from(first[q]);
-    while 0 < p {
-        sums[p - 1] = 0;
-        p = rows::after_in(words[p - 1]);
+    let rows = RowsOfState {
+        words,
+        next: usize::from(first[q]),
+    };
+    for (r, _) in rows {
+        sums[r] = 0;
     }
 }
 
@@ -213,7 +215,7 @@ pub fn clear_unused(
     states: usize,
     words: &[u64],
     first: &[u16],
-    used: &[u8],
+    used: &[bool],
     counts: &mut [u64],
     sums: &mut [u64],
 )
@@ -221,7 +223,7 @@ pub fn clear_unused(
     ensures { Cleared states words.now used.now counts.old counts.new sums.old sums.new }
 {
     for q in 0..states {
-        if used[q] == 0 {
+        if !used[q] {
             counts[q] = 0;
             clear_rows(words, first, sums, q);
         }
@@ -236,7 +238,7 @@ fn settle_used(
     by_target: &ByTarget,
     counts: &mut [u64],
     marks: &[u64],
-    used: &mut [u8],
+    used: &mut [bool],
     sums: &mut [u64],
     from: usize,
 ) -> Result<(), Refusal>
@@ -269,7 +271,7 @@ pub fn settle(
     by_target: &ByTarget,
     counts: &mut [u64],
     marks: &[u64],
-    used: &mut [u8],
+    used: &mut [bool],
     sums: &mut [u64],
 ) -> Result<(), Refusal>
     requires { SettleReady states by_target.now.rows.pool.now accepting.now by_target.now.rows.words.now by_target.now.first.now

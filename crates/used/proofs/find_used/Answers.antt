@@ -9,11 +9,11 @@ loop-m-init c = passing_begins (of_states c.requires) _ _ c.mark_listed.ensures 
 pub mark_rows-n-requires : goal.mark_rows-n-requires
 mark_rows-n-requires c = turn_ready (of_states c.requires) c.mark_listed.ensures c.loop-m.invariant (omega arith)
 
-pub loop-m-preserved-then-used-m-ne0 : goal.loop-m-preserved-then-used-m-ne0
-loop-m-preserved-then-used-m-ne0 c = passing_goes (of_states c.requires) c.mark_listed.ensures c.loop-m.invariant (omega arith) _ _ c.if-used-m-ne0.true c.mark_rows-n.ensures
+pub loop-m-preserved-then-used-m : goal.loop-m-preserved-then-used-m
+loop-m-preserved-then-used-m c = passing_goes (of_states c.requires) c.mark_listed.ensures c.loop-m.invariant (omega arith) _ _ c.if-used-m.true c.mark_rows-n.ensures
 
 pub loop-m-preserved : goal.loop-m-preserved
-loop-m-preserved c = passing_skips (of_states c.requires) c.mark_listed.ensures c.loop-m.invariant (omega arith) c.if-used-m-ne0.false
+loop-m-preserved c = passing_skips (of_states c.requires) c.mark_listed.ensures c.loop-m.invariant (omega arith) c.if-used-m.false
 
 pub returns-after-loop-m : goal.returns-after-loop-m
 returns-after-loop-m c = passing_ends (of_states c.requires) c.mark_listed.ensures c.loop-m.invariant (omega arith)

@@ -1,5 +1,5 @@
 -- The measure is the state's number: a child's state is a lower one.
-use Rattle.rows.specs.Words.{rows_in}
+use Rattle.rows.specs.Listed.{all_rows}
 use Rattle.unrank.proofs.Children.{Measuring}
 use Rattle.unrank.proofs.TreeWriter.+tree_length.Given as goal
 
@@ -7,4 +7,4 @@ abbrev pub decreases-tree_length : goal.decreases-tree_length
 decreases-tree_length l = l.q
 
 abbrev pub invariant-loop-a : goal.invariant-loop-a
-invariant-loop-a l = Measuring (rows_in l.self.by_target.rows.pool.now l.self.by_target.rows.words.now) l.self.counts.now l.q l.value l.a-items l.w l.h l.n l.a-index
+invariant-loop-a l = Measuring (all_rows l.self.by_target.rows) l.self.counts.now l.q l.value l.a-items l.w l.h l.n l.a-index

@@ -1,12 +1,9 @@
 -- The rows of the state are walked along their chain, to the last that does not begin above the value.
-use Prim.Native.Nat.{◌-◌}
-use lib.ListN.{length}
-use Rattle.rows.specs.Words.{rows_in}
+use mathlib.Core.Path.{◌≡◌}
 use Rattle.unrank.proofs.Rows.{Walking}
 use Rattle.unrank.proofs.TreeWriter.find_row.Given as goal
 
-abbrev pub invariant-loop-p : goal.invariant-loop-p
-invariant-loop-p l = Walking (rows_in l.self.by_target.rows.pool.now l.self.by_target.rows.words.now) l.self.counts.now l.q l.value l.r l.p
-
-abbrev pub decreases-loop-p : goal.decreases-loop-p
-decreases-loop-p l = length l.self.by_target.rows.words.now - l.r
+abbrev pub invariant-loop-r : goal.invariant-loop-r
+invariant-loop-r l =
+    (l.r-iterator.words.now ≡ l.self.by_target.rows.words.now)
+    × Walking l.self.by_target.rows.pool.now l.self.by_target.rows.words.now l.self.counts.now l.q l.value l.word l.begin l.r-iterator.next
