@@ -11,8 +11,8 @@ ghost use Rattle.rows.specs.Walk.{above, out_by, row_fault, row_step};
 use model::Kind;
 
 // Rows as words: each holds a row whose arguments stand in the pool.
-// (A word is a bare number, read by the functions below. As a `struct Word(u64)` with methods it would make lists of structs of what is said of lists of
-// numbers: each `get_or words r 0` would need a word that stands for none, and each part of a word, in `Held` and all that rests on it, `.field-0`.)
+// (A word is a bare `u64`, read by the functions below, and no `struct Word(u64)` with methods: what is said of words, here and in each crate above, is said
+// of lists of numbers, and of lists of structs each `get_or words r 0` would want a word in place of the 0, and each part in `Inside` and `nexts` a field.)
 // (The links of the index and of the targets are parts of the words, and not lists beside them: memory is fixed, arrays on the stack, and two lists of
 // links would be two more arrays of a place for each row.)
 #[derive(Clone, Copy, Debug)]
