@@ -44,7 +44,6 @@ fn mark_args(args: &[u16], used: &mut [bool])
 }
 
 // Marks the listed states that have trees.
-#[tactic(auto, using(crate::proofs::Marks::listed_begin, crate::proofs::Marks::listed_skip, crate::proofs::Marks::listed_go, crate::proofs::Marks::listed_end))]
 fn mark_listed(accepting: &[u16], counts: &[u64], used: &mut [bool])
     requires { RowPlaced accepting.now counts.now used.old }
     ensures { MarkedToo (listed_by accepting.now counts.now) used.old used.new }
@@ -62,30 +61,16 @@ fn pass_marked(counts: &[u64], used: &[bool], low: usize, m: usize) -> usize
     requires { PassedBy counts.now used.now low m }
     ensures { AllMarked counts.now used.now result × (result ≤ m) }
 {
-    for n in low..m {
-        if counts[n] != 0 && !used[n] {
-            return n;
-        }
-    }
-    m
+    (low..m).find(|n| counts[*n] != 0 && !used[*n]).unwrap_or(m)
 }
 
 impl Counts<'_> {
     // Whether a row with these arguments counts more than 0; where every state has trees it does.
-    #[tactic(auto, using(crate::proofs::Marks::pos_goes, crate::proofs::Marks::pos_none, crate::proofs::Marks::pos_ends, crate::proofs::Marks::row_some))]
     fn row_counts(&self, args: &[u16]) -> bool
         requires { Placed (length self.now.counts.now) args.now }
         ensures { result ≡ ltb 0 (product (map (held self.now.counts.now) args.now)) }
     {
-        if self.full {
-            return true;
-        }
-        for a in args {
-            if self.counts[usize::from(*a)] == 0 {
-                return false;
-            }
-        }
-        true
+        self.full || args.iter().all(|a| self.counts[usize::from(*a)] != 0)
     }
 
     // Marks the arguments of a row, if it counts more than 0.
