@@ -8,7 +8,7 @@ use Rattle.std.specs.Prelude.{Option, Some, None, MatchOption}
 use Rattle.std.specs.Option.{unwrap_or}
 use Rattle.std.specs.List.{list_all}
 use Rattle.std.proofs.lemmas.Grind.{get_or_default_zero}
-use native.Mathlib.Nat.{zero-mul, mul-zero, mul-pos, eq-zero-or-pos}
+use native.Mathlib.Nat.{pos_of_ne-zero, zero-mul, mul-zero, mul-pos, eq-zero-or-pos}
 use native.Mathlib.Decide.{dec_le}
 use native.Mathlib.Omega.{arith}
 use native.Mathlib.Numerals.{add-one}
@@ -140,6 +140,19 @@ module _ (xs : List ℕ) (t : ℕ → Bool) where
 
   pub picks_end : (old used : List Bool) (i : ℕ) → i ≤ length xs → length xs ≤ i → MarkedToo (picked i) old used → MarkedToo (λ q. t q && is_among q xs) old used
   picks_end old used i a b m = record { long = m.long; each = λ q. m.each q ∙ ap (λ (x : Bool). is_set old q || (t q && x)) (names_all xs i q a b) }
+
+-- those that have trees
+abbrev pub some : List ℕ → ℕ → Bool
+some cs q = ltb 0 (held cs q)
+
+module _ (accepting cs : List ℕ) where
+  module _ (old used : List Bool) (i a : ℕ) where
+    pub listed_skip : a ≡ get_or accepting i 0 → get_or cs a 0 ≡ 0 → MarkedToo (picked accepting (some cs) i) old used → MarkedToo (picked accepting (some cs) (i + 1)) old used
+    listed_skip e z m = picks_skip accepting (some cs) old used i a e m (ap (ltb 0) z)
+
+    pub listed_go : a ≡ get_or accepting i 0 → a < length old → (get_or cs a 0 ≡ 0 → ⊥) → MarkedToo (picked accepting (some cs) i) old used
+        → MarkedToo (picked accepting (some cs) (i + 1)) old (set used a true)
+    listed_go e l z m = picks_go accepting (some cs) old used i a e m (lt-ltb 0 (get_or cs a 0) (pos_of_ne-zero z)) l
 
 -- ---- a row: it counts more than 0, or nothing changes
 
