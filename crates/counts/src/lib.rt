@@ -88,16 +88,12 @@ fn plus(a: Option<u64>, b: Option<u64>) -> Option<u64>
 }
 
 // The sum of the values of the states in a list, if it has 64 bits.
-#[tactic(auto, using(crate::proofs::Marks::add_step, crate::proofs::Marks::sum_end))]
 pub fn sum_of(list: &[u16], values: &[u64]) -> Option<u64>
     requires { ArgsPlaced values.now list.now }
     ensures { Is result (sum (map (held values.now) list.now)) }
 {
-    let mut w: u64 = 0;
-    for a in list {
-        w = w.checked_add(values[usize::from(*a)])?;
-    }
-    Some(w)
+    list.iter()
+        .try_fold(0u64, |w, a| w.checked_add(values[usize::from(*a)]))
 }
 
 // A number of bits that holds a count: 1 needs none.
@@ -121,42 +117,28 @@ fn mark_of(count: Option<u64>, longest: u64) -> u64
 }
 
 // The marks of a row's arguments together, and 2 for the row's own entries.
-#[tactic(auto, using(crate::proofs::Marks::add_step, crate::proofs::Marks::mark_room, crate::proofs::Marks::sum_end))]
 fn row_sum(args: &[u16], marks: &[u64]) -> u64
     requires { Marked marks.now args.now }
     ensures { result ≡ 2 + sum (map (held marks.now) args.now) }
 {
-    let mut s: u64 = 2;
-    for a in args {
-        s += marks[usize::from(*a)];
-    }
-    s
+    args.iter().fold(2, |s, a| s + marks[usize::from(*a)])
 }
 
 // A product that is known to fit.
-#[tactic(auto, using(crate::proofs::Products::factor_goes, crate::proofs::Products::factor_below, crate::proofs::Products::factor_end))]
 fn plain_product(args: &[u16], counts: &[u64]) -> u64
     requires { Fits counts.now args.now }
     ensures { result ≡ product (map (held counts.now) args.now) }
 {
-    let mut w: u64 = 1;
-    for a in args {
-        w *= counts[usize::from(*a)];
-    }
-    w
+    args.iter().fold(1, |w, a| w * counts[usize::from(*a)])
 }
 
 // A product of counts none of which is 0, if it has 64 bits: what is beyond stays beyond.
-#[tactic(auto, using(crate::proofs::Products::factor_goes, crate::proofs::Products::factor_below, crate::proofs::Products::factor_end))]
 fn wide_product(args: &[u16], counts: &[u64]) -> Option<u64>
     requires { Some counts.now args.now }
     ensures { Is result (product (map (held counts.now) args.now)) }
 {
-    let mut w: u64 = 1;
-    for a in args {
-        w = w.checked_mul(counts[usize::from(*a)])?;
-    }
-    Some(w)
+    args.iter()
+        .try_fold(1u64, |w, a| w.checked_mul(counts[usize::from(*a)]))
 }
 
 // What a row counts whose marks together are s. An argument without trees comes first: then the row counts 0, whatever the others count. No product
