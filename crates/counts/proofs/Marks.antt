@@ -24,9 +24,6 @@ use Rattle.counts.proofs.Folds.{of_item, sum_split}
 mark_parts : (m : ℕ) → Roomy m → m ≡ long_in m + 1048576 * bits_in m + 1099511627776 * empty_in m
 mark_parts m r = omega (arith, r.empty)
 
-mark_small : (m : ℕ) → Roomy m → m ≤ 1103806599169
-mark_small m r = omega (arith, mark_parts m r, r.long, r.bits, r.empty)
-
 pub tells_empty : (longest : ℕ) → Tells 1099511627776 0 longest
 tells_empty longest = record {
   roomy = record { long = omega arith; bits = omega arith; empty = omega arith };

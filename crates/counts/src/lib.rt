@@ -17,6 +17,8 @@ ghost use Rattle.counts.specs.States.{held, ArgsPlaced, Marked, Some, Fits, Weig
 use rows::Rows;
 
 // The parts of a mark: entries below the first, bits of the count from it on, the mark for a count beyond 64 bits, the mark for no trees.
+// (A mark is a bare number: a row adds up to sixteen of them, and the sum is compared and taken apart as one mark is. A type would need an addition
+// and an order, and sums a type of their own, as a sum of marks is no mark.)
 const BIT: u64 = 1048576;
 
 const BEYOND: u64 = 4294967296;
@@ -60,7 +62,7 @@ impl Iterator for RowsOfState<'_> {
 }
 
 // What a state counts, or nothing if that is beyond 64 bits, and how many entries its longest tree has, kept to 4,097.
-#[derive(Clone, Copy)]
+#[derive(Clone, Copy, Debug)]
 struct Counted {
     count: Option<u64>,
     longest: u64,
@@ -153,7 +155,7 @@ fn row_weight(s: u64, args: &[u16], counts: &[u64]) -> Option<u64>
     if s < BIT {
         return Some(1);
     }
-    if s < 67108864 {
+    if s < 64 * BIT {
         return Some(plain_product(args, counts));
     }
     if BEYOND <= s {
@@ -219,6 +221,8 @@ impl<'a> ByTarget<'a> {
     }
 
     // Counts the states in turn from 0, whatever they count.
+    // (In `counts` and `sums` a count beyond 64 bits is the largest number of 64 bits, and the state's mark tells it from that number: an
+    // `Option<u64>` has 16 bytes, and these arrays, of a fixed size on the stack, would have twice theirs.)
     pub fn count_states(
         &self,
         states: usize,
