@@ -2,30 +2,27 @@
 use Rattle.std.specs.Prelude.{if◌then◌else◌, Option, Some as counted, None}
 use Prim.Native.Nat.{ℕ, suc, ◌+◌, ◌*◌, ◌%◌, ◌^◌, ◌<◌, ◌≤◌, min}
 use mathlib.Core.Path.{◌≡◌, refl, sym, ap, ◌∙◌, subst}
-use mathlib.Core.List.{List, [], ◌∷◌, map}
+use mathlib.Core.List.{List, [], ◌∷◌, ◌++◌, map}
 use mathlib.Core.Logic.{◌⊎◌, inl, inr}
 use native.Mathlib.Nat.{mul-zero, zero-mul, mul_comm, mul-pos, mul-le-mul, le_trans, le_of_eq, eq-zero-or-pos, le-mul_of_pos_right, lt_of_not-le}
 use native.Mathlib.Decide.{dec_le}
 use native.Mathlib.Omega.{arith}
-use lib.ListN.{length, get_or, drop, drop_of_length-le}
+use lib.ListN.{length, get_or}
 use lib.Dec.{ltb}
 use lib.Pow.{pow-add, pow_mono}
 use borrow.Author.Tests.{lt-ltb, le-ltb, le-leb, lt-leb}
 use Rattle.model.specs.Count.{sum, product}
-use Rattle.model.proofs.Lists.{drop_next}
 use Rattle.counts.specs.Marks.{top, ceiling, long_ceiling, long_in, bits_in, empty_in, Roomy, Tells}
 use Rattle.counts.specs.Kept.{Is}
 use Rattle.counts.specs.States.{held, held_whole, held_long, Marked, MarksTell, Some, Fits, Weighable, weight_by}
 use Rattle.counts.proofs.KeptCounts.{is_same}
+use Rattle.counts.proofs.Folds.{of_item, sum_split}
 
 -- ---- one mark
 
 -- a mark is its parts
 mark_parts : (m : ℕ) → Roomy m → m ≡ long_in m + 1048576 * bits_in m + 1099511627776 * empty_in m
 mark_parts m r = omega (arith, r.empty)
-
-mark_small : (m : ℕ) → Roomy m → m ≤ 1103806599169
-mark_small m r = omega (arith, mark_parts m r, r.long, r.bits, r.empty)
 
 pub tells_empty : (longest : ℕ) → Tells 1099511627776 0 longest
 tells_empty longest = record {
@@ -257,14 +254,13 @@ module _ {counts marks args : List ℕ} (t : MarksTell counts marks args) {s : �
 
 -- ---- the sum, mark by mark
 
--- one entry more
-pub add_step : (xs args : List ℕ) (i : ℕ) → i < length args → sum (map (held xs) (drop i args)) ≡ get_or xs (get_or args i 0) 0 + sum (map (held xs) (drop (i + 1) args))
-unfolding sum
-add_step xs args i l = rw (drop_next args i l)
+module _ {marks args : List ℕ} (m : Marked marks args) (ys : List ℕ) (x : ℕ) (more : List ℕ) (e : args ≡ ys ++ x ∷ more) where
+  pub mark_placed : x < length marks
+  mark_placed = of_item (λ a. a < length marks) ys x more e m.placed
 
-pub mark_room : (marks args : List ℕ) (i : ℕ) → Marked marks args → i < length args → get_or marks (get_or args i 0) 0 ≤ 1103806599169
-mark_room marks args i m l = mark_small _ (m.roomy i l)
-
-pub sum_end : (f : ℕ → ℕ) (args : List ℕ) (i : ℕ) → length args ≤ i → sum (map f (drop i args)) ≡ 0
-unfolding sum
-sum_end f args i ge = rw (drop_of_length-le args {i = i} ge)
+  -- sixteen marks fit
+  pub mark_fits : (n : ℕ) → n ≡ 2 + sum (map (held marks) ys) → n + held marks x < 2 ^ 64
+  mark_fits n j =
+      let a = apart (held marks) args m.roomy in
+      let s : sum (map (held marks) args) ≡ sum (map (held marks) ys) + (held marks x + sum (map (held marks) more)) = ap (λ (l : List ℕ). sum (map (held marks) l)) e ∙ sum_split (held marks) ys x more in
+      omega (arith, a.whole, a.long, a.bit, a.empty, m.few, s)

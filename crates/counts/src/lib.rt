@@ -17,6 +17,8 @@ ghost use Rattle.counts.specs.States.{held, ArgsPlaced, Marked, Some, Fits, Weig
 use rows::Rows;
 
 // The parts of a mark: entries below the first, bits of the count from it on, the mark for a count beyond 64 bits, the mark for no trees.
+// (A mark is a bare number: a row adds up to sixteen of them, and the sum is compared and taken apart as one mark is. A type would need an addition
+// and an order, and sums a type of their own, as a sum of marks is no mark.)
 const BIT: u64 = 1048576;
 
 const BEYOND: u64 = 4294967296;
@@ -60,7 +62,7 @@ impl Iterator for RowsOfState<'_> {
 }
 
 // What a state counts, or nothing if that is beyond 64 bits, and how many entries its longest tree has, kept to 4,097.
-#[derive(Clone, Copy)]
+#[derive(Clone, Copy, Debug)]
 struct Counted {
     count: Option<u64>,
     longest: u64,
@@ -88,16 +90,12 @@ fn plus(a: Option<u64>, b: Option<u64>) -> Option<u64>
 }
 
 // The sum of the values of the states in a list, if it has 64 bits.
-#[tactic(auto, using(crate::proofs::Marks::add_step, crate::proofs::Marks::sum_end))]
 pub fn sum_of(list: &[u16], values: &[u64]) -> Option<u64>
     requires { ArgsPlaced values.now list.now }
     ensures { Is result (sum (map (held values.now) list.now)) }
 {
-    let mut w: u64 = 0;
-    for a in list {
-        w = w.checked_add(values[usize::from(*a)])?;
-    }
-    Some(w)
+    list.iter()
+        .try_fold(0u64, |w, a| w.checked_add(values[usize::from(*a)]))
 }
 
 // A number of bits that holds a count: 1 needs none.
@@ -121,42 +119,28 @@ fn mark_of(count: Option<u64>, longest: u64) -> u64
 }
 
 // The marks of a row's arguments together, and 2 for the row's own entries.
-#[tactic(auto, using(crate::proofs::Marks::add_step, crate::proofs::Marks::mark_room, crate::proofs::Marks::sum_end))]
 fn row_sum(args: &[u16], marks: &[u64]) -> u64
     requires { Marked marks.now args.now }
     ensures { result ≡ 2 + sum (map (held marks.now) args.now) }
 {
-    let mut s: u64 = 2;
-    for a in args {
-        s += marks[usize::from(*a)];
-    }
-    s
+    args.iter().fold(2, |s, a| s + marks[usize::from(*a)])
 }
 
 // A product that is known to fit.
-#[tactic(auto, using(crate::proofs::Products::factor_goes, crate::proofs::Products::factor_below, crate::proofs::Products::factor_end))]
 fn plain_product(args: &[u16], counts: &[u64]) -> u64
     requires { Fits counts.now args.now }
     ensures { result ≡ product (map (held counts.now) args.now) }
 {
-    let mut w: u64 = 1;
-    for a in args {
-        w *= counts[usize::from(*a)];
-    }
-    w
+    args.iter().fold(1, |w, a| w * counts[usize::from(*a)])
 }
 
 // A product of counts none of which is 0, if it has 64 bits: what is beyond stays beyond.
-#[tactic(auto, using(crate::proofs::Products::factor_goes, crate::proofs::Products::factor_below, crate::proofs::Products::factor_end))]
 fn wide_product(args: &[u16], counts: &[u64]) -> Option<u64>
     requires { Some counts.now args.now }
     ensures { Is result (product (map (held counts.now) args.now)) }
 {
-    let mut w: u64 = 1;
-    for a in args {
-        w = w.checked_mul(counts[usize::from(*a)])?;
-    }
-    Some(w)
+    args.iter()
+        .try_fold(1u64, |w, a| w.checked_mul(counts[usize::from(*a)]))
 }
 
 // What a row counts whose marks together are s. An argument without trees comes first: then the row counts 0, whatever the others count. No product
@@ -171,7 +155,7 @@ fn row_weight(s: u64, args: &[u16], counts: &[u64]) -> Option<u64>
     if s < BIT {
         return Some(1);
     }
-    if s < 67108864 {
+    if s < 64 * BIT {
         return Some(plain_product(args, counts));
     }
     if BEYOND <= s {
@@ -238,6 +222,8 @@ impl<'a> ByTarget<'a> {
     }
 
     // Counts the states in turn from 0, whatever they count.
+    // (In `counts` and `sums` a count beyond 64 bits is the largest number of 64 bits, and the state's mark tells it from that number: an
+    // `Option<u64>` has 16 bytes, and these arrays, of a fixed size on the stack, would have twice theirs.)
     pub fn count_states(
         &self,
         states: usize,

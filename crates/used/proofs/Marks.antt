@@ -2,25 +2,28 @@
 use Prim.Native.Nat.{ℕ, ◌+◌, ◌*◌, ◌<◌, ◌≤◌}
 use mathlib.Core.Path.{◌≡◌, refl, sym, ap, ◌∙◌}
 use mathlib.Core.Bool.{Bool, true, false, ◌&&◌, ◌||◌}
-use mathlib.Core.List.{List, map}
+use mathlib.Core.List.{List, [], ◌∷◌, map}
 use mathlib.Core.Logic.{◌⊎◌, inl, inr}
-use native.Mathlib.Nat.{pos_of_ne-zero, zero-mul, mul-pos, eq-zero-or-pos}
+use Rattle.std.specs.Prelude.{Option, Some, None, MatchOption}
+use Rattle.std.specs.Option.{unwrap_or}
+use Rattle.std.specs.List.{list_all}
+use Rattle.std.proofs.lemmas.Grind.{get_or_default_zero}
+use native.Mathlib.Nat.{pos_of_ne-zero, zero-mul, mul-zero, mul-pos, eq-zero-or-pos}
 use native.Mathlib.Decide.{dec_le}
 use native.Mathlib.Omega.{arith}
 use native.Mathlib.Numerals.{add-one}
-use lib.ListN.{length, get_or, set, drop, drop_of_length-le, length-set}
+use lib.ListN.{length, get_or, set, length-set}
 use lib.Seq.{get_or-set_same, get_or-set_other}
 use lib.Dec.{eqb, ltb}
 use borrow.Author.Tests.{eqb-true, eqb-false, lt-ltb, eq-eqb}
 use Rattle.model.specs.Choice.{any_below}
 use Rattle.model.specs.Count.{product}
 use Rattle.model.specs.Reach.{is_among}
-use Rattle.model.proofs.Lists.{drop_next}
 use Rattle.model.proofs.Choice.{or_left, any_true, any_some}
 use Rattle.model.proofs.Counting.{factors_some}
 use Rattle.model.proofs.Used.{among_place, place_among}
 use Rattle.counts.specs.States.{held}
-use Rattle.used.specs.Marked.{is_set, Placed, NoneEmpty, MarkedToo, row_names, listed_by, AllMarked}
+use Rattle.used.specs.Marked.{is_set, Placed, NoneEmpty, MarkedToo, row_names, AllMarked, PassedBy}
 
 -- ---- tests
 
@@ -39,29 +42,23 @@ or_assoc false y z = refl
 
 -- ---- a product above 0
 
-module _ (cs args : List ℕ) where
-  from_next : (i : ℕ) → i < length args → product (map (held cs) (drop i args)) ≡ held cs (get_or args i 0) * product (map (held cs) (drop (i + 1) args))
-  unfolding product
-  from_next i l = rw (drop_next args i l)
+-- what stands in the list is a state
+pub item_placed : {n x : ℕ} {xs : List ℕ} → Placed n xs → (k : ℕ) → k < length xs → x ≡ get_or xs k x → x < n
+item_placed {n} {x} {xs} p k l e = rw (e ∙ get_or_default_zero xs k x l) (p.placed k l)
 
-  pub pos_goes : (i : ℕ) → i < length args → 0 < get_or cs (get_or args i 0) 0 → ltb 0 (product (map (held cs) (drop (i + 1) args))) ≡ ltb 0 (product (map (held cs) (drop i args)))
-  pos_goes i l x = go (eq-zero-or-pos (product (map (held cs) (drop (i + 1) args))))
-    where
-      P : ℕ
-      P = product (map (held cs) (drop (i + 1) args))
+-- it is above 0 where each factor is
+pub all_counted : (cs args : List ℕ) → list_all (λ a. ltb 0 (held cs a)) args ≡ ltb 0 (product (map (held cs) args))
+unfolding product
+all_counted cs [] = refl
+all_counted cs (a ∷ args) = ap (λ (b : Bool). ltb 0 (held cs a) && b) (all_counted cs args) ∙ go (eq-zero-or-pos (held cs a)) (eq-zero-or-pos (product (map (held cs) args)))
+  where
+    P : ℕ
+    P = product (map (held cs) args)
 
-      go : (P ≡ 0) ⊎ (0 < P) → ltb 0 P ≡ ltb 0 (product (map (held cs) (drop i args)))
-      go (inl z) = rw (from_next i l, z) (let w : held cs (get_or args i 0) * 0 ≡ 0 = omega arith in rw w)
-      go (inr y) = lt-ltb 0 P y ∙ sym (rw (from_next i l) (lt-ltb 0 (held cs (get_or args i 0) * P) (mul-pos x y)))
-
-  pub pos_none : (i : ℕ) → i < length args → get_or cs (get_or args i 0) 0 ≡ 0 → ltb 0 (product (map (held cs) (drop i args))) ≡ false
-  pos_none i l z =
-      let y : product (map (held cs) (drop i args)) ≡ 0 = from_next i l ∙ ap (λ (n : ℕ). n * product (map (held cs) (drop (i + 1) args))) z ∙ zero-mul _ in
-      ap (ltb 0) y
-
-  pub pos_ends : (i : ℕ) → length args ≤ i → ltb 0 (product (map (held cs) (drop i args))) ≡ true
-  unfolding product
-  pos_ends i ge = rw (drop_of_length-le args {i = i} ge)
+    go : (held cs a ≡ 0) ⊎ (0 < held cs a) → (P ≡ 0) ⊎ (0 < P) → (ltb 0 (held cs a) && ltb 0 P) ≡ ltb 0 (held cs a * P)
+    go (inl z) y = rw (z, zero-mul P)
+    go (inr x) (inl z) = rw (z, lt-ltb 0 (held cs a) x, mul-zero (held cs a))
+    go (inr x) (inr y) = rw (lt-ltb 0 (held cs a) x, lt-ltb 0 P y, lt-ltb 0 (held cs a * P) (mul-pos x y))
 
 -- ---- the states of a list
 
@@ -85,27 +82,77 @@ set_mark used a q l = go (eqb a q) (eqb-true a q) (eqb-false a q)
     go true y n = ap (is_set (set used a true)) (sym (y refl)) ∙ get_or-set_same used a true false l ∙ sym (yes_or (is_set used q))
     go false y n = get_or-set_other used a q true false (λ e. n refl (sym e)) ∙ or_none (is_set used q)
 
--- nothing is marked yet
-pub marks_begin : (xs : List ℕ) (used : List Bool) → MarkedToo (names xs 0) used used
-unfolding any_below
-marks_begin xs used = record { long = refl; each = λ q. or_none (is_set used q) }
+-- ---- the listed states that pass a test, marked in turn
 
--- one entry more
-pub marks_go : (xs : List ℕ) (old used : List Bool) (i a : ℕ) → a ≡ get_or xs i 0 → a < length old → MarkedToo (names xs i) old used → MarkedToo (names xs (i + 1)) old (set used a true)
-unfolding any_below
-marks_go xs old used i a e l m =
-    rw (add-one i)
-    (record {
-      long = length-set used a true ∙ m.long;
-      each = λ q.
-          set_mark used a q (omega (arith, m.long))
-          ∙ ap (λ (b : Bool). b || eqb a q) (m.each q)
-          ∙ or_assoc (is_set old q) (names xs i q) (eqb a q)
-          ∙ ap (λ (x : ℕ). is_set old q || (names xs i q || eqb x q)) e;
-    })
+module _ (xs : List ℕ) (t : ℕ → Bool) where
+  -- one of the first i entries is the state, and it passes
+  abbrev pub picked : (i q : ℕ) → Bool
+  picked i q = t q && names xs i q
 
-pub marks_end : (xs : List ℕ) (old used : List Bool) (i : ℕ) → i ≤ length xs → length xs ≤ i → MarkedToo (names xs i) old used → MarkedToo (λ q. is_among q xs) old used
-marks_end xs old used i a b m = record { long = m.long; each = λ q. m.each q ∙ ap (λ (x : Bool). is_set old q || x) (names_all xs i q a b) }
+  pub picks_begin : (used : List Bool) → MarkedToo (picked 0) used used
+  unfolding any_below
+  picks_begin used = record { long = refl; each = λ q. or_none (is_set used q) ∙ ap (λ (b : Bool). is_set used q || b) (none (t q)) }
+    where
+      none : (b : Bool) → false ≡ (b && false)
+      none true = refl
+      none false = refl
+
+  module _ (old used : List Bool) (i a : ℕ) (e : a ≡ get_or xs i 0) (m : MarkedToo (picked i) old used) where
+    -- the entry passes
+    pub picks_go : t a ≡ true → a < length old → MarkedToo (picked (i + 1)) old (set used a true)
+    unfolding any_below
+    picks_go y l =
+        rw (add-one i)
+        (record {
+          long = length-set used a true ∙ m.long;
+          each = λ q.
+              set_mark used a q (omega (arith, m.long))
+              ∙ ap (λ (b : Bool). b || eqb a q) (m.each q)
+              ∙ ap (λ (x : ℕ). (is_set old q || (t q && names xs i q)) || eqb x q) e
+              ∙ here q (eqb (get_or xs i 0) q) (eqb-true (get_or xs i 0) q);
+        })
+      where
+        yes : (o x : Bool) → ((o || (true && x)) || true) ≡ (o || (true && (x || true)))
+        yes true x = refl
+        yes false true = refl
+        yes false false = refl
+
+        no : (o x y : Bool) → ((o || (y && x)) || false) ≡ (o || (y && (x || false)))
+        no true x y = refl
+        no false true true = refl
+        no false true false = refl
+        no false false true = refl
+        no false false false = refl
+
+        here : (q : ℕ) (b : Bool) → (b ≡ true → get_or xs i 0 ≡ q) → ((is_set old q || (t q && names xs i q)) || b) ≡ (is_set old q || (t q && (names xs i q || b)))
+        here q false z = no (is_set old q) (names xs i q) (t q)
+        here q true z = let n : t q ≡ true = ap t (sym (e ∙ z refl)) ∙ y in rw n (yes (is_set old q) (names xs i q))
+
+    -- it does not
+    pub picks_skip : t a ≡ false → MarkedToo (picked (i + 1)) old used
+    unfolding any_below
+    picks_skip n =
+        rw (add-one i) (record { long = m.long; each = λ q. m.each q ∙ ap (λ (b : Bool). is_set old q || b) (here q (eqb (get_or xs i 0) q) (eqb-true (get_or xs i 0) q)) })
+      where
+        here : (q : ℕ) (b : Bool) → (b ≡ true → get_or xs i 0 ≡ q) → (t q && names xs i q) ≡ (t q && (names xs i q || b))
+        here q false z = ap (λ (b : Bool). t q && b) (or_none (names xs i q))
+        here q true z = let f : t q ≡ false = ap t (sym (e ∙ z refl)) ∙ n in rw f
+
+  pub picks_end : (old used : List Bool) (i : ℕ) → i ≤ length xs → length xs ≤ i → MarkedToo (picked i) old used → MarkedToo (λ q. t q && is_among q xs) old used
+  picks_end old used i a b m = record { long = m.long; each = λ q. m.each q ∙ ap (λ (x : Bool). is_set old q || (t q && x)) (names_all xs i q a b) }
+
+-- those that have trees
+abbrev pub some : List ℕ → ℕ → Bool
+some cs q = ltb 0 (held cs q)
+
+module _ (accepting cs : List ℕ) where
+  module _ (old used : List Bool) (i a : ℕ) where
+    pub listed_skip : a ≡ get_or accepting i 0 → get_or cs a 0 ≡ 0 → MarkedToo (picked accepting (some cs) i) old used → MarkedToo (picked accepting (some cs) (i + 1)) old used
+    listed_skip e z m = picks_skip accepting (some cs) old used i a e m (ap (ltb 0) z)
+
+    pub listed_go : a ≡ get_or accepting i 0 → a < length old → (get_or cs a 0 ≡ 0 → ⊥) → MarkedToo (picked accepting (some cs) i) old used
+        → MarkedToo (picked accepting (some cs) (i + 1)) old (set used a true)
+    listed_go e l z m = picks_go accepting (some cs) old used i a e m (lt-ltb 0 (get_or cs a 0) (pos_of_ne-zero z)) l
 
 -- ---- a row: it counts more than 0, or nothing changes
 
@@ -125,85 +172,27 @@ row_no_lem cs args old b t e =
     and_no true = refl
     and_no false = refl
 
--- ---- the accepting list
-
-module _ (accepting cs : List ℕ) where
-  -- one of the first i entries is the state, and it has trees
-  abbrev pub listed : (i q : ℕ) → Bool
-  listed i q = ltb 0 (held cs q) && names accepting i q
-
-  pub listed_begin : (used : List Bool) → MarkedToo (listed 0) used used
-  unfolding any_below
-  listed_begin used = record { long = refl; each = λ q. or_none (is_set used q) ∙ ap (λ (b : Bool). is_set used q || b) (none (ltb 0 (held cs q))) }
-    where
-      none : (b : Bool) → false ≡ (b && false)
-      none true = refl
-      none false = refl
-
-  pub listed_skip : (old used : List Bool) (i a : ℕ) → a ≡ get_or accepting i 0 → get_or cs a 0 ≡ 0 → MarkedToo (listed i) old used → MarkedToo (listed (i + 1)) old used
-  unfolding any_below
-  listed_skip old used i a e z m =
-      rw (add-one i) (record { long = m.long; each = λ q. m.each q ∙ ap (λ (b : Bool). is_set old q || b) (here q (eqb (get_or accepting i 0) q) (eqb-true (get_or accepting i 0) q)) })
-    where
-      here : (q : ℕ) (b : Bool) → (b ≡ true → get_or accepting i 0 ≡ q) → (ltb 0 (held cs q) && names accepting i q) ≡ (ltb 0 (held cs q) && (names accepting i q || b))
-      here q false y = ap (λ (b : Bool). ltb 0 (held cs q) && b) (or_none (names accepting i q))
-      here q true y =
-          let n : ltb 0 (held cs q) ≡ false = ap (λ (x : ℕ). ltb 0 (get_or cs x 0)) (sym (e ∙ y refl)) ∙ ap (ltb 0) z in
-          rw n
-
-  pub listed_go : (old used : List Bool) (i a : ℕ) → a ≡ get_or accepting i 0 → a < length old → (get_or cs a 0 ≡ 0 → ⊥) → MarkedToo (listed i) old used → MarkedToo (listed (i + 1)) old (set used a true)
-  unfolding any_below
-  listed_go old used i a e l z m =
-      rw (add-one i)
-      (record {
-        long = length-set used a true ∙ m.long;
-        each = λ q.
-            set_mark used a q (omega (arith, m.long))
-            ∙ ap (λ (b : Bool). b || eqb a q) (m.each q)
-            ∙ ap (λ (x : ℕ). (is_set old q || (ltb 0 (held cs q) && names accepting i q)) || eqb x q) e
-            ∙ here q (eqb (get_or accepting i 0) q) (eqb-true (get_or accepting i 0) q);
-      })
-    where
-      yes : (o x : Bool) → ((o || (true && x)) || true) ≡ (o || (true && (x || true)))
-      yes true x = refl
-      yes false true = refl
-      yes false false = refl
-
-      no : (o x y : Bool) → ((o || (y && x)) || false) ≡ (o || (y && (x || false)))
-      no true x y = refl
-      no false true true = refl
-      no false true false = refl
-      no false false true = refl
-      no false false false = refl
-
-      here : (q : ℕ) (b : Bool) → (b ≡ true → get_or accepting i 0 ≡ q)
-          → ((is_set old q || (ltb 0 (held cs q) && names accepting i q)) || b) ≡ (is_set old q || (ltb 0 (held cs q) && (names accepting i q || b)))
-      here q false y = no (is_set old q) (names accepting i q) (ltb 0 (held cs q))
-      here q true y =
-          let n : ltb 0 (held cs q) ≡ true = ap (λ (x : ℕ). ltb 0 (get_or cs x 0)) (sym (e ∙ y refl)) ∙ lt-ltb 0 (get_or cs a 0) (pos_of_ne-zero z) in
-          rw n (yes (is_set old q) (names accepting i q))
-
-  pub listed_end : (old used : List Bool) (i : ℕ) → i ≤ length accepting → length accepting ≤ i → MarkedToo (listed i) old used → MarkedToo (listed_by accepting cs) old used
-  listed_end old used i a b m =
-      record { long = m.long; each = λ q. m.each q ∙ ap (λ (x : Bool). is_set old q || (ltb 0 (held cs q) && x)) (names_all accepting i q a b) }
-
 -- ---- the state that is next to mark
 
 pub all_marked_none : (cs : List ℕ) (used : List Bool) → AllMarked cs used 0
 all_marked_none cs used = record { marked = λ a l p. absurd (omega arith) }
 
-one_more : (cs : List ℕ) (used : List Bool) (n : ℕ) → AllMarked cs used n → (0 < held cs n → is_set used n ≡ true) → AllMarked cs used (n + 1)
-one_more cs used n s h = record { marked = λ a l p. go a p (dec_le n a) l }
-  where
-    go : (a : ℕ) → 0 < held cs a → Dec (n ≤ a) → a < n + 1 → is_set used a ≡ true
-    go a p (yes y) l = let e : a ≡ n = omega arith in rw e (h (rw (← e) p))
-    go a p (no y) l = let k : a < n = omega arith in s.marked a k p
+-- the states from `low` on and before the next one are passed, all up to m where there is none
+module _ (cs : List ℕ) (used : List Bool) (low m : ℕ) (g : PassedBy cs used low m) where
+  abbrev pub Passes : ℕ → Type 0
+  Passes k = 0 < held cs k → is_set used k ≡ true
 
-pub passes_empty : (cs : List ℕ) (used : List Bool) (n : ℕ) → AllMarked cs used n → get_or cs n 0 ≡ 0 → AllMarked cs used (n + 1)
-passes_empty cs used n s z = one_more cs used n s (λ p. absurd (omega arith))
+  up_to : (n : ℕ) → ((k : ℕ) → low ≤ k → k < n → Passes k) → AllMarked cs used n
+  up_to n h = record { marked = λ a l p. go a l p (dec_le low a) }
+    where
+      go : (a : ℕ) → a < n → 0 < held cs a → Dec (low ≤ a) → is_set used a ≡ true
+      go a l p (yes y) = h a y l p
+      go a l p (no y) = g.passed.marked a (omega arith) p
 
-pub passes_marked : (cs : List ℕ) (used : List Bool) (n : ℕ) → AllMarked cs used n → is_set used n ≡ true → AllMarked cs used (n + 1)
-passes_marked cs used n s m = one_more cs used n s (λ p. m)
+  pub passed_by : (r : Option ℕ) (n : ℕ) → n ≡ unwrap_or r m
+      → MatchOption r ((k : ℕ) → low ≤ k → k < m → Passes k) (λ i. (low ≤ i) × (i < m) × Unit {0} × ((k : ℕ) → low ≤ k → k < i → Passes k)) → AllMarked cs used n × (n ≤ m)
+  passed_by None n e h = rw e (up_to m h, omega arith)
+  passed_by (Some i) n e h = rw e (up_to i h.3, omega arith)
 
 -- marks only grow
 pub marked_stays : (cs : List ℕ) (old used : List Bool) (n : ℕ) (p : ℕ → Bool) → MarkedToo p old used → AllMarked cs old n → AllMarked cs used n

@@ -1,5 +1,6 @@
 -- Used states held to the limits: what is left then is as documents 01 and 02 say. Assumes nothing.
-use Rattle.std.specs.Prelude.{if◌then◌else◌, Option, Some, None, Result, Ok, Err}
+use Rattle.std.specs.Prelude.{if◌then◌else◌, Result, Ok, Err}
+use Rattle.std.specs.Result.{is_err}
 use Prim.Native.Nat.{ℕ, ◌<◌, ◌≤◌, min}
 use mathlib.Core.Path.{◌≡◌, refl, sym, ap, ◌∙◌}
 use mathlib.Core.Bool.{Bool, true, false}
@@ -10,9 +11,7 @@ use native.Mathlib.Nat.{eq-zero-or-pos}
 use native.Mathlib.Omega.{arith}
 use lib.ListN.{length, get_or}
 use lib.Dec.{ltb}
-use Rattle.model.specs.declared.Kind.{Kind}
 use Rattle.model.specs.declared.Refusal.{Refusal}
-use Rattle.model.specs.Answers.{refused, kind_number, refused_by}
 use Rattle.model.specs.Table.{Row, Table}
 use Rattle.model.specs.Count.{count}
 use Rattle.model.specs.Value.{earlier_rows}
@@ -32,7 +31,7 @@ use Rattle.counts.specs.Prepared.{used_sum, used as used_left, whole}
 use Rattle.counts.proofs.Prepared.{earlier_le}
 use Rattle.counts.proofs.All.{count_same, longest_same, earlier_same}
 use Rattle.used.specs.Marked.{is_set, PassReady, FoundUsed}
-use Rattle.used.specs.Limits.{Measures, FaultFrom, FaultReady, FaultFound, FirstUsed}
+use Rattle.used.specs.Limits.{Measures, BeyondFrom, FaultReady, FaultFound, FirstUsed}
 use Rattle.used.specs.Settled.{ClearReady, Cleared, SettleReady, Settled}
 use Rattle.used.proofs.Walk.{target_word}
 use Rattle.used.proofs.Beyond.{ground_fine}
@@ -75,11 +74,11 @@ module _ {states : ℕ} {pool accepting words first cs ms : List ℕ} {used₀ :
 
   -- ---- no state is beyond a limit, and nothing is prepared
 
-  pub settled_none : (prepare : Bool) (from : ℕ) → prepare ≡ false → states ≤ from → FaultFrom states ms from → Settled prepare states pool accepting words cs cs ss ss (Ok tt)
-  settled_none prepare from low ge f = record {
+  pub settled_none : (prepare : Bool) (r : Result (Unit {0}) Refusal) → prepare ≡ false → BeyondFrom states ms 0 r → is_err r ≡ false → Settled prepare states pool accepting words cs cs ss ss (Ok tt)
+  settled_none prepare r low b e = record {
     cs_long = refl;
     sums_long = refl;
-    fault = λ r e. let z : ◌≡◌ {A = ℕ} 0 1 = cc in absurd (omega arith);
+    fault = λ f h. let z : ◌≡◌ {A = ℕ} 0 1 = cc in absurd (omega arith);
     fine = λ e a l. ground_clear count_limit T a (all a l);
     listed = λ e i l. let s = g.listed.placed i l in fine_exact (get_or accepting i 0) (all (get_or accepting i 0) s);
     left = λ e. whole (record {
@@ -90,8 +89,12 @@ module _ {states : ℕ} {pool accepting words first cs ms : List ℕ} {used₀ :
     prepared = λ y e. absurd (not_both prepare y low);
   }
     where
+      none : (r : Result (Unit {0}) Refusal) → is_err r ≡ false → r ≡ Ok tt
+      none (Ok u) e = refl
+      none (Err f) e = cc
+
       all : (a : ℕ) → a < states → limit_ground count_limit T a ≡ 0
-      all a l = f.fine T refl measures a (omega arith) (omega arith)
+      all a l = b.none T refl measures (none r e) a (omega arith) l
 
       every : (a : ℕ) → held cs a ≡ count T a
       every a = go (dec_le states a)
@@ -111,8 +114,8 @@ module _ {states : ℕ} {pool accepting words first cs ms : List ℕ} {used₀ :
   -- ---- the used states are found
 
   module _ {used : List Bool} (u : FoundUsed states pool accepting words used₀ used) where
-    pub fault_ready : (from : ℕ) → FaultFrom states ms from → FaultReady states ms used from
-    fault_ready from f = record { room = g.room.ms_room; used_room = omega (arith, g.room.used_room, u.long); before = f }
+    pub fault_ready : FaultReady states ms used
+    fault_ready = record { room = g.room.ms_room; used_room = omega (arith, g.room.used_room, u.long) }
 
     pub clear_ready : Chained (rows_in pool words) first (afters words) → ClearReady states words first used cs ss
     clear_ready ch = record {
@@ -125,20 +128,16 @@ module _ {states : ℕ} {pool accepting words first cs ms : List ℕ} {used₀ :
       sums_room = g.room.sums_room;
     }
 
-    module _ {r : Option (ℕ × Kind)} (f : FirstUsed states ms used r) where
+    module _ {r : Result (Unit {0}) Refusal} (f : FirstUsed states ms used r) where
       found : FaultFound states (state_ground count_limit T) r
       found = f.found T refl measures u.each
 
       -- one is beyond a limit
-      pub settled_fault : (q : ℕ) (k : Kind) → r ≡ Some (q, k) → (f' : Refusal) → refused_by f' ≡ refused (kind_number k) q → Settled true states pool accepting words cs cs ss ss (Err f')
-      settled_fault q k e f' i = record {
+      pub settled_fault : (f' : Refusal) → r ≡ Err f' → Settled true states pool accepting words cs cs ss ss (Err f')
+      settled_fault f' e = record {
         cs_long = refl;
         sums_long = refl;
-        fault = λ f'' h.
-            let y : f'' ≡ f' = cc in
-            let n : kind_number f'.kind ≡ kind_number k = cc in
-            let p : f'.place ≡ q = cc in
-            rw (y, n, p) (found.fault q k e);
+        fault = λ f'' h. let y : f'' ≡ f' = cc in rw y (found.fault f' e);
         fine = λ h. let z : ◌≡◌ {A = ℕ} 0 1 = cc in absurd (omega arith);
         listed = λ h. let z : ◌≡◌ {A = ℕ} 0 1 = cc in absurd (omega arith);
         left = λ h. let z : ◌≡◌ {A = ℕ} 0 1 = cc in absurd (omega arith);
@@ -146,7 +145,7 @@ module _ {states : ℕ} {pool accepting words first cs ms : List ℕ} {used₀ :
       }
 
       -- none is, and the unused ones are cleared
-      module _ (none : r ≡ None) {cs' ss' : List ℕ} (c : Cleared states words used cs cs' ss ss') where
+      module _ (none : r ≡ Ok tt) {cs' ss' : List ℕ} (c : Cleared states words used cs cs' ss ss') where
         used_exact : (a : ℕ) → a < states → is_used T a ≡ true → (count T a ≤ count_limit) × (held cs a ≡ count T a)
         used_exact a l e =
             let z : limit_ground count_limit T a ≡ 0 = sym (ground_used count_limit T a e) ∙ found.fine none a l in

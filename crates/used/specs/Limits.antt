@@ -1,6 +1,7 @@
 -- The limits on counts and longest trees, of all states and of used ones. Assumes nothing: these are definitions.
-use Rattle.std.specs.Prelude.{ℕ, Bool, ◌<◌, ◌≤◌, min, ◌≡◌, List, length, ltb, Option, Some, None}
-use Rattle.model.specs.declared.Kind.{Kind}
+use Rattle.std.specs.Prelude.{ℕ, Bool, ◌<◌, ◌≤◌, min, ◌≡◌, List, length, ltb, Result, Ok, Err, if◌then◌else◌}
+use Rattle.model.specs.declared.Kind.TheVariants.{CountAboveLimit, LongestTreeAboveLimit}
+use Rattle.model.specs.declared.Refusal.{Refusal}
 use Rattle.model.specs.Answers.{kind_number}
 use Rattle.model.specs.Table.{Table}
 use Rattle.model.specs.Count.{count, longest}
@@ -10,6 +11,13 @@ use Rattle.chains.specs.First.{AllFine, FirstAt}
 use Rattle.counts.specs.Marks.{top, long_in, over_in}
 use Rattle.counts.specs.States.{held}
 use Rattle.used.specs.Marked.{is_set}
+
+-- what state q of this mark is refused by: 9 for a count beyond 64 bits, else 10 for a longest tree above 4,096 entries
+abbrev pub limits_of : (q mark : ℕ) → Result (Unit {0}) Refusal
+limits_of q mark =
+    if over_in mark then Err (record { place = q; kind = CountAboveLimit }) else
+    if ltb 4096 (long_in mark) then Err (record { place = q; kind = LongestTreeAboveLimit }) else
+    Ok tt
 
 -- the marks are those of the table's states
 pub record Measures (T : Table) (ms : List ℕ) : Type 0 where
@@ -28,26 +36,21 @@ pub record BeyondAt (T : Table) (from q number : ℕ) : Type 0 where
   pub here : limit_ground count_limit T q ≡ number
 
 -- of every table whose marks these are: the first such state, or there is none
-pub record BeyondFrom (states : ℕ) (ms : List ℕ) (from : ℕ) (r : Option (ℕ × Kind)) : Type 0 where
-  pub inside : (q : ℕ) (k : Kind) → r ≡ Some (q, k) → (from ≤ q) × (q < states)
-  pub at : (T : Table) → T.states ≡ states → Measures T ms → (q : ℕ) (k : Kind) → r ≡ Some (q, k) → BeyondAt T from q (kind_number k)
-  pub none : (T : Table) → T.states ≡ states → Measures T ms → r ≡ None → FineFrom T from states
+pub record BeyondFrom (states : ℕ) (ms : List ℕ) (from : ℕ) (r : Result (Unit {0}) Refusal) : Type 0 where
+  pub inside : (f : Refusal) → r ≡ Err f → (from ≤ f.place) × (f.place < states)
+  pub at : (T : Table) → T.states ≡ states → Measures T ms → (f : Refusal) → r ≡ Err f → BeyondAt T from f.place (kind_number f.kind)
+  pub none : (T : Table) → T.states ≡ states → Measures T ms → r ≡ Ok tt → FineFrom T from states
 
--- no state before this one is beyond a limit
-pub record FaultFrom (states : ℕ) (ms : List ℕ) (from : ℕ) : Type 0 where
-  pub fine : (T : Table) → T.states ≡ states → Measures T ms → FineFrom T 0 from
-
--- what the first used state beyond a limit is looked for from
-pub record FaultReady (states : ℕ) (ms : List ℕ) (used : List Bool) (from : ℕ) : Type 0 where
+-- what the first used state beyond a limit is looked for in
+pub record FaultReady (states : ℕ) (ms : List ℕ) (used : List Bool) : Type 0 where
   pub room : states ≤ length ms
   pub used_room : states ≤ length used
-  pub before : FaultFrom states ms from
 
 -- the first faulty state of n, or there is none
-pub record FaultFound (n : ℕ) (ground_of : ℕ → ℕ) (r : Option (ℕ × Kind)) : Type 0 where
-  pub fault : (q : ℕ) (k : Kind) → r ≡ Some (q, k) → FirstAt n ground_of q (kind_number k)
-  pub fine : r ≡ None → AllFine n ground_of
+pub record FaultFound (n : ℕ) (ground_of : ℕ → ℕ) (r : Result (Unit {0}) Refusal) : Type 0 where
+  pub fault : (f : Refusal) → r ≡ Err f → FirstAt n ground_of f.place (kind_number f.kind)
+  pub fine : r ≡ Ok tt → AllFine n ground_of
 
 -- of every table whose marks and used states these are: the first used state that is beyond a limit, or there is none
-pub record FirstUsed (states : ℕ) (ms : List ℕ) (used : List Bool) (r : Option (ℕ × Kind)) : Type 0 where
+pub record FirstUsed (states : ℕ) (ms : List ℕ) (used : List Bool) (r : Result (Unit {0}) Refusal) : Type 0 where
   pub found : (T : Table) → T.states ≡ states → Measures T ms → ((q : ℕ) → is_set used q ≡ is_used T q) → FaultFound states (state_ground count_limit T) r

@@ -8,7 +8,7 @@ ghost use Rattle.model.specs.Reach.{is_among};
 ghost use Rattle.rows.specs.Listed.{all_rows};
 ghost use Rattle.counts.specs.States.{held};
 ghost use Rattle.used.specs.Marked.{Placed, NoneEmpty, MarkedToo, RowPlaced, row_names, listed_by, AllMarked, PassedBy, TurnReady, Turned, PassReady, FoundUsed};
-ghost use Rattle.used.specs.Limits.{BeyondFrom, FaultFrom, FaultReady, FirstUsed};
+ghost use Rattle.used.specs.Limits.{limits_of, BeyondFrom, FaultReady, FirstUsed};
 ghost use Rattle.used.specs.Settled.{RowsChained, RowsCleared, ClearReady, Cleared, SettleReady, Settled};
 
 use counts::{ByTarget, RowsOfState};
@@ -44,7 +44,7 @@ fn mark_args(args: &[u16], used: &mut [bool])
 }
 
 // Marks the listed states that have trees.
-#[tactic(auto, using(crate::proofs::Marks::listed_begin, crate::proofs::Marks::listed_skip, crate::proofs::Marks::listed_go, crate::proofs::Marks::listed_end))]
+#[tactic(auto, using(crate::proofs::Marks::listed_skip, crate::proofs::Marks::listed_go))]
 fn mark_listed(accepting: &[u16], counts: &[u64], used: &mut [bool])
     requires { RowPlaced accepting.now counts.now used.old }
     ensures { MarkedToo (listed_by accepting.now counts.now) used.old used.new }
@@ -62,30 +62,16 @@ fn pass_marked(counts: &[u64], used: &[bool], low: usize, m: usize) -> usize
     requires { PassedBy counts.now used.now low m }
     ensures { AllMarked counts.now used.now result × (result ≤ m) }
 {
-    for n in low..m {
-        if counts[n] != 0 && !used[n] {
-            return n;
-        }
-    }
-    m
+    (low..m).find(|n| counts[*n] != 0 && !used[*n]).unwrap_or(m)
 }
 
 impl Counts<'_> {
     // Whether a row with these arguments counts more than 0; where every state has trees it does.
-    #[tactic(auto, using(crate::proofs::Marks::pos_goes, crate::proofs::Marks::pos_none, crate::proofs::Marks::pos_ends, crate::proofs::Marks::row_some))]
     fn row_counts(&self, args: &[u16]) -> bool
         requires { Placed (length self.now.counts.now) args.now }
         ensures { result ≡ ltb 0 (product (map (held self.now.counts.now) args.now)) }
     {
-        if self.full {
-            return true;
-        }
-        for a in args {
-            if self.counts[usize::from(*a)] == 0 {
-                return false;
-            }
-        }
-        true
+        self.full || args.iter().all(|a| self.counts[usize::from(*a)] != 0)
     }
 
     // Marks the arguments of a row, if it counts more than 0.
@@ -149,50 +135,42 @@ pub fn find_used(
     }
 }
 
-// The first state from `from` on whose count is above the limit, or else whose longest tree is. The limit is the largest number of 64 bits: a
-// count above it has a mark.
-pub fn first_beyond(states: usize, marks: &[u64], from: usize) -> Option<(usize, Kind)>
-    requires { states ≤ length marks.now }
-    ensures { BeyondFrom states marks.now from result }
+// Refuses state q if by its mark its count is above the limit, or else its longest tree is. The limit is the largest number of 64 bits: a count
+// above it has a mark.
+fn limits(q: usize, mark: u64) -> Result<(), Refusal>
+    ensures { result ≡ limits_of q mark }
 {
-    for q in from..states {
-        if counts::over_in(marks[q]) {
-            return Some((q, Kind::CountAboveLimit));
-        }
-        if LENGTH_LIMIT < counts::long_in(marks[q]) {
-            return Some((q, Kind::LongestTreeAboveLimit));
-        }
+    if counts::over_in(mark) {
+        return Err(Refusal::new(Kind::CountAboveLimit, q));
     }
-    None
+    if LENGTH_LIMIT < counts::long_in(mark) {
+        return Err(Refusal::new(Kind::LongestTreeAboveLimit, q));
+    }
+    Ok(())
 }
 
-// The number of the first state beyond a limit, or `states`.
-#[tactic(auto, using(crate::proofs::Beyond::place_of))]
-fn first_place(states: usize, marks: &[u64]) -> usize
+// Refuses the first state that is beyond a limit.
+pub fn first_beyond(states: usize, marks: &[u64]) -> Result<(), Refusal>
     requires { states ≤ length marks.now }
-    ensures { FaultFrom states marks.now result }
+    ensures { BeyondFrom states marks.now 0 result }
 {
-    first_beyond(states, marks, 0).map_or(states, |(q, _)| q)
+    for q in 0..states {
+        limits(q, marks[q])?;
+    }
+    Ok(())
 }
 
-// The first used state from `from` on that is beyond a limit, where no state before that is.
-pub fn first_fault(
-    states: usize,
-    marks: &[u64],
-    used: &[bool],
-    from: usize,
-) -> Option<(usize, Kind)>
-    requires { FaultReady states marks.now used.now from }
+// Refuses the first used state that is beyond a limit.
+pub fn first_fault(states: usize, marks: &[u64], used: &[bool]) -> Result<(), Refusal>
+    requires { FaultReady states marks.now used.now }
     ensures { FirstUsed states marks.now used.now result }
 {
-    let mut q = from;
-    while let Some((a, kind)) = first_beyond(states, marks, q) {
-        if used[a] {
-            return Some((a, kind));
+    for q in 0..states {
+        if used[q] {
+            limits(q, marks[q])?;
         }
-        q = a + 1;
     }
-    None
+    Ok(())
 }
 
 // Sets the sums of the rows of state q to 0.
@@ -230,8 +208,8 @@ pub fn clear_unused(
     }
 }
 
-// Finds the used states, and the first of them that is beyond a limit, where no state before `from` is. Where there is none the counts of
-// unused states, and the sums of their rows, become 0.
+// Finds the used states, and refuses the first of them that is beyond a limit. Where there is none the counts of unused states, and the sums of
+// their rows, become 0.
 fn settle_used(
     states: usize,
     accepting: &[u16],
@@ -240,17 +218,14 @@ fn settle_used(
     marks: &[u64],
     used: &mut [bool],
     sums: &mut [u64],
-    from: usize,
 ) -> Result<(), Refusal>
     requires { SettleReady states by_target.now.rows.pool.now accepting.now by_target.now.rows.words.now by_target.now.first.now
-        counts.old marks.now used.old sums.old × FaultFrom states marks.now from }
+        counts.old marks.now used.old sums.old }
     ensures { Settled true states by_target.now.rows.pool.now accepting.now by_target.now.rows.words.now counts.old
         counts.new sums.old sums.new result }
 {
     find_used(states, accepting, by_target, counts, used);
-    if let Some((q, kind)) = first_fault(states, marks, used, from) {
-        return Err(Refusal::new(kind, q));
-    }
+    first_fault(states, marks, used)?;
     clear_unused(
         states,
         by_target.rows.words,
@@ -264,6 +239,7 @@ fn settle_used(
 
 // Holds the used states to the limits. Where none is beyond them the counts of unused states, and the sums of their rows, become 0; this
 // is left out where nothing is prepared and no state at all is beyond a limit.
+// (`prepare` is a bool: it is handed on as it is from the operation, and an enum would call its two values by the same two words.)
 pub fn settle(
     prepare: bool,
     states: usize,
@@ -279,11 +255,8 @@ pub fn settle(
     ensures { Settled prepare states by_target.now.rows.pool.now accepting.now by_target.now.rows.words.now counts.old
         counts.new sums.old sums.new result }
 {
-    let from = first_place(states, marks);
-    if prepare || from < states {
-        settle_used(
-            states, accepting, by_target, counts, marks, used, sums, from,
-        )?;
+    if prepare || first_beyond(states, marks).is_err() {
+        settle_used(states, accepting, by_target, counts, marks, used, sums)?;
     }
     Ok(())
 }

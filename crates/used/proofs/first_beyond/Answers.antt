@@ -1,13 +1,16 @@
 -- The states passed are within the limits.
-use mathlib.Core.Path.{refl}
-use Rattle.used.proofs.Beyond.{found_count, found_long, found_none}
+use Rattle.std.proofs.Common.{◌≡◌, ◌∙◌, sym, Err, rules}
+use Rattle.used.proofs.Beyond.{looking_stops, looking_goes, looking_ends}
 use Rattle.used.proofs.first_beyond.Goals as goal
 
-pub returns-then-over_in : goal.returns-then-over_in
-returns-then-over_in c = found_count c.args.states c.args.marks.now c.args.from c.loop-q.invariant _ c.over_in.ensures c.loop-q-test.true c.if-over_in.true _ refl
+pub loop-q-preserved : goal.loop-q-preserved
+loop-q-preserved c = looking_goes c.args.states c.args.marks.now 0 c.loop-q.invariant c.loop-q-test.true (sym c.limits.ensures ∙ c.in_ok-limits.was)
 
-pub returns-then-long_in-gt-LENGTH_LIMIT : goal.returns-then-long_in-gt-LENGTH_LIMIT
-returns-then-long_in-gt-LENGTH_LIMIT c = found_long c.args.states c.args.marks.now c.args.from c.loop-q.invariant _ c.over_in.ensures _ c.long_in.ensures c.if-over_in.false c.loop-q-test.true c.if-long_in-gt-LENGTH_LIMIT.true _ refl
+pub returns-in_err-limits : goal.returns-in_err-limits
+returns-in_err-limits c =
+    let f = c.in_err-limits.field-0.0 in
+    let e : c.from_residual.result ≡ Err f = search rules in
+    rw e (looking_stops c.args.states c.args.marks.now 0 c.loop-q.invariant c.loop-q-test.true f (sym c.limits.ensures ∙ c.in_err-limits.was))
 
 pub returns : goal.returns
-returns c = found_none c.args.states c.args.marks.now c.args.from c.loop-q.invariant c.loop-q-test.false
+returns c = looking_ends c.args.states c.args.marks.now 0 c.loop-q.invariant c.loop-q-test.false

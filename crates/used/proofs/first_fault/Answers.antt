@@ -1,15 +1,24 @@
 -- The used states passed are within the limits.
-use Rattle.used.proofs.Beyond.{none_begins, fault_there, none_goes, fault_none}
+use Rattle.std.proofs.Common.{◌≡◌, ◌∙◌, sym, Err, rules}
+use Rattle.used.proofs.Beyond.{none_begins, none_skips, none_goes, fault_there, fault_none}
+use Rattle.used.proofs.first_fault.Goals.{then-used-q+in_ok-limits, else-used-q}
 use Rattle.used.proofs.first_fault.Goals as goal
 
-pub loop-a-init : goal.loop-a-init
-loop-a-init c = none_begins c.args.states c.args.marks.now c.args.used.now _ c.requires.before
+pub loop-q-init : goal.loop-q-init
+loop-q-init c = none_begins c.args.states c.args.marks.now c.args.used.now
 
-pub returns-then-used-a : goal.returns-then-used-a
-returns-then-used-a c = fault_there c.args.states c.args.marks.now c.args.used.now c.loop-a.invariant _ c.first_beyond.ensures _ _ c.in-Some.is c.if-used-a.true
+pub loop-q-preserved : goal.loop-q-preserved
+loop-q-preserved c =
+    elim c.if-used-q.branch [
+      | then-used-q+in_ok-limits w ↦ none_goes c.args.states c.args.marks.now c.args.used.now c.loop-q.invariant c.loop-q-test.true (sym w.limits.ensures ∙ w.in_ok-limits.was)
+      | else-used-q w ↦ none_skips c.args.states c.args.marks.now c.args.used.now c.loop-q.invariant w.if-used-q.false
+    ]
 
-pub loop-a-preserved : goal.loop-a-preserved
-loop-a-preserved c = none_goes c.args.states c.args.marks.now c.args.used.now c.loop-a.invariant _ c.first_beyond.ensures _ _ c.in-Some.is c.if-used-a.false
+pub returns-in_err-limits : goal.returns-in_err-limits
+returns-in_err-limits c =
+    let f = c.in_err-limits.field-0.0 in
+    let e : c.from_residual.result ≡ Err f = search rules in
+    rw e (fault_there c.args.states c.args.marks.now c.args.used.now c.loop-q.invariant c.loop-q-test.true c.if-used-q.true f (sym c.limits.ensures ∙ c.in_err-limits.was))
 
 pub returns : goal.returns
-returns c = fault_none c.args.states c.args.marks.now c.args.used.now c.loop-a.invariant _ c.first_beyond.ensures c.in_default.is
+returns c = fault_none c.args.states c.args.marks.now c.args.used.now c.loop-q.invariant c.loop-q-test.false

@@ -1,9 +1,9 @@
 -- The entries passed that have trees are marked.
-use Rattle.used.proofs.Marks.{listed_begin, listed_end}
+use Rattle.used.proofs.Marks.{some, picks_begin, picks_end}
 use Rattle.used.proofs.mark_listed.Goals as goal
 
 pub loop-a-init : goal.loop-a-init
-loop-a-init c = listed_begin c.args.accepting.now c.args.counts.now c.args.used.now
+loop-a-init c = picks_begin c.args.accepting.now (some c.args.counts.now) c.args.used.now
 
 pub returns : goal.returns
-returns c = listed_end c.args.accepting.now c.args.counts.now c.args.used.now _ c.loop-a.a-index c.loop-a.auto.a-index-end c.loop-a-test.false c.loop-a.invariant
+returns c = picks_end c.args.accepting.now (some c.args.counts.now) _ _ c.loop-a.a-index c.loop-a.auto.a-index-end c.loop-a-test.false c.loop-a.invariant
