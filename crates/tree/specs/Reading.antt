@@ -20,8 +20,13 @@ not_a_tree place = record { place = place; kind = NotATree }
 unfoldable pub step_of : Reading → ℕ → Result Step Refusal
 step_of r e =
     if ltb 255 e || (eqb e 0 && eqb r.depth 0) || (ltb 0 r.place && eqb r.depth 0) then Err (not_a_tree r.place) else
-    if eqb e 0 then Ok (Closes (record { depth = r.depth - 1; place = r.place + 1 })) else
-    Ok (Opens (record { depth = r.depth + 1; place = r.place + 1 }))
+    if eqb e 0 then Ok Closes else Ok Opens
+
+-- the reading after the entry: one node more is open or one less, and the next entry has the next place; a refused entry is not read
+abbrev pub read_on : Reading → Result Step Refusal → Reading
+read_on r (Ok Opens) = record { depth = r.depth + 1; place = r.place + 1 }
+read_on r (Ok Closes) = record { depth = r.depth - 1; place = r.place + 1 }
+read_on r (Err _) = r
 
 -- "for a list that ends too soon (an empty one too) the place is its length"
 unfoldable pub end_of : Reading → Result (Unit {0}) Refusal

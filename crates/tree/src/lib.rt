@@ -2,7 +2,7 @@
 #![tactic(auto)]
 
 ghost use Rattle.std.specs.Prelude.{◌≡◌, ◌<◌, ◌≤◌};
-ghost use Rattle.tree.specs.Reading.{fresh, step_of, end_of, Decides};
+ghost use Rattle.tree.specs.Reading.{fresh, step_of, read_on, end_of, Decides};
 
 use model::{Kind, Refusal};
 
@@ -16,8 +16,8 @@ pub struct Reading {
 // The entry opens a node or closes one.
 #[derive(Clone, Copy, PartialEq, Eq, Debug)]
 pub enum Step {
-    Opens(Reading),
-    Closes(Reading),
+    Opens,
+    Closes,
 }
 
 impl Reading {
@@ -27,28 +27,24 @@ impl Reading {
         Reading { depth: 0, place: 0 }
     }
 
-    // Reads one entry, or refuses it.
+    // Reads one entry, or refuses it and stays as it was.
     #[tactic(auto, unfolding(crate::specs::Reading::step_of))]
-    pub fn entry(self, e: u16) -> Result<Step, Refusal>
-        requires { (self.depth ≤ self.place) × (self.place < 4096) }
-        ensures { result ≡ step_of self e }
+    pub fn entry(&mut self, e: u16) -> Result<Step, Refusal>
+        requires { (self.old.depth ≤ self.old.place) × (self.old.place < 4096) }
+        ensures answered { result ≡ step_of self.old e }
+        ensures moved { self.new ≡ read_on self.old result }
     {
-        let Reading { depth, place } = self;
         // with no node open, nothing was read or the root's bar was
-        if 255 < e || depth == 0 && (0 < place || e == 0) {
-            return Err(Refusal::new(Kind::NotATree, place));
+        if 255 < e || self.depth == 0 && (0 < self.place || e == 0) {
+            return Err(Refusal::new(Kind::NotATree, self.place));
         }
-        let place = place + 1;
+        self.place += 1;
         if e == 0 {
-            return Ok(Step::Closes(Reading {
-                depth: depth - 1,
-                place,
-            }));
+            self.depth -= 1;
+            return Ok(Step::Closes);
         }
-        Ok(Step::Opens(Reading {
-            depth: depth + 1,
-            place,
-        }))
+        self.depth += 1;
+        Ok(Step::Opens)
     }
 
     // After the last entry: the list is a tree, or ends too soon.
@@ -65,6 +61,7 @@ impl Reading {
 }
 
 // Whether the list is a tree of at most 4,096 entries, or refused by 12 or 13.
+#[tactic(auto, using(crate::proofs::Laws::begins, crate::proofs::Laws::too_long, crate::proofs::Laws::ended))]
 pub fn check_tree(tree: &[u16]) -> Result<(), Refusal>
     ensures { Decides tree.now result }
 {
@@ -73,8 +70,7 @@ pub fn check_tree(tree: &[u16]) -> Result<(), Refusal>
     }
     let mut s = Reading::new();
     for e in tree {
-        let (Step::Opens(t) | Step::Closes(t)) = s.entry(*e)?;
-        s = t;
+        s.entry(*e)?;
     }
     s.end()
 }
