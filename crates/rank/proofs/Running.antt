@@ -1,5 +1,5 @@
 -- The arrays as stacks, while the entries of a tree are taken in turn. Assumes nothing.
-use Rattle.std.specs.Prelude.{Some, None, Ok, Err, Option}
+use Rattle.std.specs.Prelude.{Some, None, Ok, Err, Option, Result}
 use Prim.Native.Nat.{ℕ, zero, suc, ◌+◌, ◌*◌, ◌-◌, ◌<◌, ◌≤◌, max}
 use mathlib.Core.Path.{◌≡◌, refl, sym, ap, ◌∙◌}
 use mathlib.Core.Bool.{true, false, ◌&&◌, ◌||◌}
@@ -33,8 +33,9 @@ use Rattle.rows.proofs.Words.{rows_long}
 use Rattle.index.specs.Index.{row_found}
 use Rattle.counts.specs.Chain.{target}
 use Rattle.counts.specs.States.{held}
-use Rattle.tree.specs.Reading.{fresh, step_of}
+use Rattle.tree.specs.Reading.{fresh, step_of, read_on}
 use Rattle.tree.specs.declared.Reading.{Reading}
+use Rattle.tree.specs.declared.Step.{Step}
 use Rattle.tree.specs.declared.Step.TheVariants.{Opens, Closes}
 use Rattle.tree.proofs.Laws.{Read, refusing, opens_by, closes_by, opened, shut, refused_here, begins as read_begins}
 use Rattle.rank.specs.Machine.{Node, formed, node_by, node_of, numbered, run, machine}
@@ -117,20 +118,28 @@ module _ (node : ℕ → List ℕ → List ℕ → Node) (end : ℕ → ℕ → 
 
 -- ---- one entry of the reading
 
-pub step_opens : (s t : Reading) (e : ℕ) → step_of s e ≡ Ok (Opens t) → (eqb e 0 ≡ false) × (t.depth ≡ suc s.depth)
-unfolding step_of
-step_opens s t e p =
-    let h = opens_by (refusing s e) (eqb e 0) _ _ _ t p in
-    (h.1, ap (λ (r : Reading). r.depth) h.2 ∙ add-one s.depth)
+-- the entry does x, and the reading after it is t
+pub record Turned (s : Reading) (e : ℕ) (x : Step) (t : Reading) : Type 0 where
+  pub is : step_of s e ≡ Ok x
+  pub on : t ≡ read_on s (Ok x)
 
-pub step_closes : (s t : Reading) (e : ℕ) → step_of s e ≡ Ok (Closes t) → (eqb e 0 ≡ true) × (s.depth ≡ suc t.depth)
+pub turned : {s t : Reading} {e : ℕ} {r : Result Step Refusal} {x y : Step} → r ≡ step_of s e → t ≡ read_on s r → r ≡ Ok y → y ≡ x → Turned s e x t
+turned {s} is on went d = record { is = sym is ∙ went ∙ ap Ok d; on = on ∙ ap (read_on s) (went ∙ ap Ok d) }
+
+pub step_opens : {s t : Reading} {e : ℕ} → Turned s e Opens t → (eqb e 0 ≡ false) × (t.depth ≡ suc s.depth)
 unfolding step_of
-step_closes s t e p =
-    let h = closes_by (refusing s e) (eqb e 0) _ _ _ t p in
+step_opens {s} {t} {e} p =
+    let h = opens_by (refusing s e) (eqb e 0) _ p.is in
+    (h.1, ap (λ (r : Reading). r.depth) p.on ∙ add-one s.depth)
+
+pub step_closes : {s t : Reading} {e : ℕ} → Turned s e Closes t → (eqb e 0 ≡ true) × (s.depth ≡ suc t.depth)
+unfolding step_of
+step_closes {s} {t} {e} p =
+    let h = closes_by (refusing s e) (eqb e 0) _ p.is in
     let a = or_false (ltb 255 e || (eqb e 0 && eqb s.depth 0)) (ltb 0 s.place && eqb s.depth 0) h.0 in
     let b : (eqb e 0 && eqb s.depth 0) ≡ false = (or_false (ltb 255 e) (eqb e 0 && eqb s.depth 0) a.0).1 in
     let n : eqb s.depth 0 ≡ false = rw h.1 at b in
-    let d : t.depth ≡ s.depth - 1 = ap (λ (r : Reading). r.depth) h.2 in
+    let d : t.depth ≡ s.depth - 1 = ap (λ (r : Reading). r.depth) p.on in
     (h.1, omega (arith, pos_of_ne-zero (eqb-false s.depth 0 n)))
 
 -- ---- a closed node
@@ -272,13 +281,16 @@ module _ {by : ℕ} {pool words heads accepting cs sums tree opens₀ begins₀ 
     here = rw (drop_next tree i l) at r.same
 
     -- the entry opens a node
-    module _ (t : Reading) (e : step_of s (get_or tree i 0) ≡ Ok (Opens t)) (well : WellFormed tree) where
+    module _ (t : Reading) (e : Turned s (get_or tree i 0) Opens t) (well : WellFormed tree) where
+      open_reads : Read tree t (i + 1)
+      open_reads = rw e.on (opened r.reads l e.is)
+
       open_deep : 2 * t.depth ≤ length tree
-      open_deep = let x = opened r.reads l t e in omega (arith, x.depth_is, open_bound tree well (i + 1) x.within)
+      open_deep = let x : Read tree t (i + 1) = open_reads in omega (arith, x.depth_is, open_bound tree well (i + 1) x.within)
 
       pub open_room : (t.depth - 1 < length opens) × (t.depth - 1 < length begins) × (1 ≤ t.depth)
       open_room =
-          let up : t.depth ≡ suc s.depth = (step_opens s t (get_or tree i 0) e).1 in
+          let up : t.depth ≡ suc s.depth = (step_opens e).1 in
           (omega (arith, open_deep, r.opens_long, r.space.opens_room), omega (arith, open_deep, r.begins_long, r.space.begins_room), omega arith)
 
       open_same : (d : ℕ) → d ≡ s.depth → d < length opens → d < length begins
@@ -287,13 +299,13 @@ module _ {by : ℕ} {pool words heads accepting cs sums tree opens₀ begins₀ 
       open_same d q mo mb =
           let size : length (take w waiting) ≡ w = length-take-le w waiting few_wait.1 in
           let h = sym (run_open (node_of rows cs sums) (numbered accepting cs) (stack_of s.depth opens) (stack_of s.depth begins) (take w waiting) (take w values) i (get_or tree i 0) (drop (i + 1) tree)
-          (step_opens s t (get_or tree i 0) e).0) ∙ here in
+          (step_opens e).0) ∙ here in
           rw (push d opens (get_or tree i 0) mo, push d begins w mb, q) (rw size at h)
 
       pub node_opens : (opens' begins' : List ℕ) → (opens' ≡ set opens (t.depth - 1) (get_or tree i 0)) × (begins' ≡ set begins (t.depth - 1) w)
           → Running by pool words heads accepting cs sums tree opens₀ begins₀ waiting₀ values₀ opens' begins' waiting values w t (i + 1)
       node_opens opens' begins' stored =
-          let up : t.depth ≡ suc s.depth = (step_opens s t (get_or tree i 0) e).1 in
+          let up : t.depth ≡ suc s.depth = (step_opens e).1 in
           let q : t.depth - 1 ≡ s.depth = omega arith in
           let top : t.depth ≡ t.depth - 1 + 1 = omega arith in
           let there : get_or (set begins (t.depth - 1) w) (t.depth - 1) 0 ≡ w = get_or-set_same begins (t.depth - 1) w 0 open_room.1 in
@@ -302,7 +314,7 @@ module _ {by : ℕ} {pool words heads accepting cs sums tree opens₀ begins₀ 
           = below_more (λ (j : ℕ). get_or (set begins (t.depth - 1) w) j 0 ≤ w) (t.depth - 1) (λ j lt. rw (other j lt) (r.under j (omega arith))) (rw there (omega arith)) in
           rw (stored.0, stored.1) (record {
             ready = r.ready;
-            reads = opened r.reads l t e;
+            reads = open_reads;
             space = r.space;
             opens_long = length-set opens (t.depth - 1) (get_or tree i 0) ∙ r.opens_long;
             begins_long = length-set begins (t.depth - 1) w ∙ r.begins_long;
@@ -326,9 +338,12 @@ module _ {by : ℕ} {pool words heads accepting cs sums tree opens₀ begins₀ 
           })
 
     -- the entry closes a node, whose children stand from b on among those that wait
-    module _ (t : Reading) (e : step_of s (get_or tree i 0) ≡ Ok (Closes t)) (b : ℕ) (at : b ≡ get_or begins t.depth 0) where
+    module _ (t : Reading) (e : Turned s (get_or tree i 0) Closes t) (b : ℕ) (at : b ≡ get_or begins t.depth 0) where
+      close_reads : Read tree t (i + 1)
+      close_reads = rw e.on (shut r.reads l e.is)
+
       deeper : s.depth ≡ suc t.depth
-      deeper = (step_closes s t (get_or tree i 0) e).1
+      deeper = (step_closes e).1
 
       pub close_depth : (t.depth < length opens) × (t.depth < length begins) × (t.depth < 2048)
       close_depth = (
@@ -377,7 +392,7 @@ module _ {by : ℕ} {pool words heads accepting cs sums tree opens₀ begins₀ 
           → refused 14 i ≡ machine rows accepting cs sums tree
       node_sticks h =
           sym (run_stuck (node_of rows cs sums) (numbered accepting cs) (stack_of t.depth opens) (stack_of t.depth begins) (take w waiting) (take w values) i
-          (get_or opens t.depth 0) b (get_or tree i 0) (drop (i + 1) tree) (step_closes s t (get_or tree i 0) e).0 (parts None h))
+          (get_or opens t.depth 0) b (get_or tree i 0) (drop (i + 1) tree) (step_closes e).0 (parts None h))
           ∙ at_bar
 
       -- the front of an array after the store at b
@@ -396,7 +411,7 @@ module _ {by : ℕ} {pool words heads accepting cs sums tree opens₀ begins₀ 
           let other_v : (j : ℕ) → j < b → get_or (set values b v) j 0 ≡ get_or values j 0 = λ j lt. get_or-set_other values b j v 0 (omega arith) in
           rw (stored.0, stored.1) (record {
             ready = r.ready;
-            reads = shut r.reads l t e;
+            reads = close_reads;
             space = r.space;
             opens_long = r.opens_long;
             begins_long = r.begins_long;
@@ -414,7 +429,7 @@ module _ {by : ℕ} {pool words heads accepting cs sums tree opens₀ begins₀ 
             same =
                 rw (front waiting q close_room.0, front values v close_room.1)
                 (sym (run_close (node_of rows cs sums) (numbered accepting cs) (stack_of t.depth opens) (stack_of t.depth begins) (take w waiting) (take w values) i
-                (get_or opens t.depth 0) b (get_or tree i 0) (drop (i + 1) tree) (step_closes s t (get_or tree i 0) e).0 q v (parts (Some (q, v)) h))
+                (get_or opens t.depth 0) b (get_or tree i 0) (drop (i + 1) tree) (step_closes e).0 q v (parts (Some (q, v)) h))
                 ∙ at_bar);
           })
 

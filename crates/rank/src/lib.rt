@@ -147,19 +147,15 @@ impl<'a> Numbering<'a> {
         for (i, e) in tree.iter().enumerate() {
             // no entry of a tree is refused
             match s.entry(*e)? {
-                Step::Opens(t) => {
-                    open_node(opens, t.depth - 1, *e, w);
-                    s = t;
-                }
-                Step::Closes(t) => {
-                    let OpenNode { symbol, begin } = opens[t.depth];
+                Step::Opens => open_node(opens, s.depth - 1, *e, w),
+                Step::Closes => {
+                    let OpenNode { symbol, begin } = opens[s.depth];
                     let b = usize::from(begin);
                     let Some((q, v)) = self.close(symbol, &waiting[b..w], &values[b..w]) else {
                         return Err(Refusal::new(Kind::NotAccepted, i));
                     };
                     store_closed(waiting, values, b, q, v);
                     w = b + 1;
-                    s = t;
                 }
             }
         }
