@@ -29,8 +29,8 @@ fn fold(states: &[u16], values: &[u64], counts: &[u64]) -> u64
     ensures { result ≡ horner (held counts.now) 0 states.now values.now }
 {
     let mut h: u64 = 0;
-    for (i, q) in states.iter().enumerate() {
-        h = h * counts[usize::from(*q)] + values[i];
+    for (q, v) in states.iter().zip(values) {
+        h = h * counts[usize::from(*q)] + *v;
     }
     h
 }
