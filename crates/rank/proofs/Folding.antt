@@ -1,17 +1,17 @@
 -- A node's value from those of its children. Assumes nothing.
 use Rattle.std.specs.Prelude.{Some, None}
-use Prim.Native.Nat.{ℕ, zero, suc, ◌+◌, ◌*◌, ◌<◌, ◌≤◌, pred}
+use Prim.Native.Nat.{ℕ, suc, ◌+◌, ◌*◌, ◌<◌, ◌≤◌, pred}
 use mathlib.Core.Path.{◌≡◌, refl, sym, ap, ◌∙◌}
 use mathlib.Core.List.{List, [], ◌∷◌, map}
 use native.Mathlib.Omega.{arith}
+use mathlib.Core.Logic.{◌⊎◌, inl, inr}
 use native.Mathlib.Nat.{le-mul_of_pos_right, pos_of_ne-zero}
-use lib.ListN.{length, get_or, drop, drop_of_length-le}
+use lib.ListN.{length, get_or}
 use borrow.Author.Tests.{eq-eqb, ne_eqb}
 use Rattle.model.specs.Table.{Row, row_is}
 use Rattle.model.specs.Count.{product}
 use Rattle.model.specs.Value.{horner}
 use Rattle.model.specs.Check.{count_limit}
-use Rattle.model.proofs.Lists.{drop_next}
 use Rattle.model.proofs.Values.{ValuesBelow, none_below, also_below, below_length, horner_from, horner_less}
 use Rattle.chains.proofs.First.{first_is}
 use Rattle.rows.specs.Words.{row_no, rows_in, target_in}
@@ -30,11 +30,6 @@ below_each c [] (v ∷ vs) e h = absurd (omega arith)
 below_each c (x ∷ xs) [] e h = absurd (omega arith)
 below_each c (x ∷ xs) (v ∷ vs) e h = also_below (h 0 (omega arith)) (below_each c xs vs (ap pred e) (λ k l. h (suc k) (omega arith)))
 
-below_drop : {c : ℕ → ℕ} {xs vs : List ℕ} (i : ℕ) → ValuesBelow c xs vs → ValuesBelow c (drop i xs) (drop i vs)
-below_drop zero b = b
-below_drop (suc i) none_below = none_below
-below_drop (suc i) (also_below l b) = below_drop i b
-
 pub valued_below : {cs xs vs : List ℕ} → ValuesFit cs xs vs → ValuesBelow (held cs) xs vs
 valued_below {cs} {xs} {vs} v = below_each (held cs) xs vs v.many v.below
 
@@ -45,31 +40,35 @@ horner_least {c} {xs} {vs} h b =
     let l : h ≤ h * product (map c xs) = le-mul_of_pos_right h (omega arith) in
     omega (arith, horner_from c h xs vs (below_length b))
 
--- i children are taken in
-pub record Folding (cs xs vs : List ℕ) (h i : ℕ) : Type 0 where
-  pub within : i ≤ length xs
-  pub same : horner (held cs) h (drop i xs) (drop i vs) ≡ horner (held cs) 0 xs vs
+-- the children that are left, with their values, make of h what all make of 0
+pub record Folding (cs xs vs : List ℕ) (h : ℕ) (ys ws : List ℕ) : Type 0 where
+  pub valued : ValuesBelow (held cs) ys ws
+  pub same : horner (held cs) h ys ws ≡ horner (held cs) 0 xs vs
 
-pub fold_begins : (cs xs vs : List ℕ) → Folding cs xs vs 0 0
-fold_begins cs xs vs = record { within = omega arith; same = refl }
+pub fold_begins : {cs xs vs : List ℕ} → ValuesFit cs xs vs → Folding cs xs vs 0 xs vs
+fold_begins v = record { valued = valued_below v; same = refl }
 
-module _ {cs xs vs : List ℕ} {h i : ℕ} (f : Folding cs xs vs h i) (l : i < length xs) (m : length vs ≡ length xs) where
-  next_same : horner (held cs) (h * held cs (get_or xs i 0) + get_or vs i 0) (drop (i + 1) xs) (drop (i + 1) vs) ≡ horner (held cs) 0 xs vs
+below_next : {c : ℕ → ℕ} {q v : ℕ} {qs vs : List ℕ} → ValuesBelow c (q ∷ qs) (v ∷ vs) → (v < c q) × ValuesBelow c qs vs
+below_next (also_below l b) = (l, b)
+
+-- the next child is taken in
+module _ {cs xs vs : List ℕ} {h q v : ℕ} {ys ws ys' ws' : List ℕ} (f : Folding cs xs vs h ys ws) (e : (ys ≡ q ∷ ys') × (ws ≡ v ∷ ws')) where
+  next : Folding cs xs vs h (q ∷ ys') (v ∷ ws')
+  next = rw (e.0, e.1) at f
+
+  pub fold_goes : (x : ℕ) → x ≡ q → Folding cs xs vs (h * held cs x + v) ys' ws'
   unfolding horner
-  next_same = rw (drop_next xs i l, drop_next vs i (omega arith)) at f.same
+  fold_goes x d = rw d (record { valued = (below_next next.valued).1; same = next.same })
 
-  pub fold_goes : (x : ℕ) → x ≡ get_or xs i 0 → Folding cs xs vs (h * held cs x + get_or vs i 0) (i + 1)
-  fold_goes x e = record { within = omega arith; same = rw e next_same }
+  pub fold_fits : (x : ℕ) → x ≡ q → Foldable cs xs vs → h * held cs x + v ≤ count_limit
+  fold_fits x d b = let g = fold_goes x d in omega (arith, horner_least (h * held cs x + v) g.valued, g.same, horner_less (valued_below b.valued), b.small)
 
-  pub fold_fits : (x : ℕ) → x ≡ get_or xs i 0 → Foldable cs xs vs → h * held cs x + get_or vs i 0 ≤ count_limit
-  fold_fits x e b =
-      let v = valued_below b.valued in
-      let g = horner_least (h * held cs (get_or xs i 0) + get_or vs i 0) (below_drop (i + 1) v) in
-      rw e (omega (arith, g, next_same, horner_less v, b.small))
-
-pub fold_ends : {cs xs vs : List ℕ} {h i : ℕ} → Folding cs xs vs h i → length xs ≤ i → h ≡ horner (held cs) 0 xs vs
+pub fold_ends : {cs xs vs : List ℕ} {h : ℕ} (ys ws : List ℕ) → Folding cs xs vs h ys ws → (ys ≡ []) ⊎ (ws ≡ []) → h ≡ horner (held cs) 0 xs vs
 unfolding horner
-fold_ends {cs} {xs} {vs} {h} {i} f g = rw (drop_of_length-le xs {i = i} g) at f.same
+fold_ends [] ws f e = f.same
+fold_ends (y ∷ ys) [] f e = f.same
+fold_ends (y ∷ ys) (w ∷ ws) f (inl e) = cc
+fold_ends (y ∷ ys) (w ∷ ws) f (inr e) = cc
 
 -- ---- the row of a node
 

@@ -1,8 +1,8 @@
 -- The arrays as stacks, while the entries of a tree are taken in turn. Assumes nothing.
-use Rattle.std.specs.Prelude.{Some, None, Ok, Err, Option}
+use Rattle.std.specs.Prelude.{Some, None, Option, if◌then◌else◌}
 use Prim.Native.Nat.{ℕ, zero, suc, ◌+◌, ◌*◌, ◌-◌, ◌<◌, ◌≤◌, max}
 use mathlib.Core.Path.{◌≡◌, refl, sym, ap, ◌∙◌}
-use mathlib.Core.Bool.{true, false, ◌&&◌, ◌||◌}
+use mathlib.Core.Bool.{Bool, true, false, ◌&&◌, ◌||◌}
 use mathlib.Core.List.{List, [], ◌∷◌, ◌++◌, map}
 use native.Mathlib.Omega.{arith}
 use native.Mathlib.Bridge.{le_prop}
@@ -10,89 +10,86 @@ use Rattle.std.proofs.Props.{props}
 use native.Mathlib.Numerals.{add-one}
 use mathlib.Core.Logic.{◌⊎◌, inl, inr, ∥∥₁_elim}
 use native.Mathlib.Nat.{zero-sub, pos_of_ne-zero, eq-zero-or-pos}
-use lib.ListN.{length, get_or, set, take, drop, replicate, length-replicate, length-map, get_or-map, length-set, length-drop, drop_of_length-le}
-use lib.Seq.{take-nil, take_all, get_or-set_same, get_or-set_other, take-suc-set, length-take-le, take-take, map-set, get_or-take, get_or-drop}
+use lib.ListN.{length, get_or, set, take, drop, length-set, length-drop, drop_of_length-le}
+use lib.Seq.{take-nil, take_all, get_or-set_same, get_or-set_other, take-suc-set, length-take-le, take-take, get_or-take, get_or-drop}
 use lib.Dec.{ltb, eqb}
 use borrow.Author.Count.{below_more}
 use borrow.Author.Tests.{eqb-false, ltb-false}
-use Rattle.model.specs.Answers.{Outcome, result, refused, refused_by}
-use Rattle.model.specs.declared.Refusal.{Refusal}
+use Rattle.model.specs.Answers.{Outcome, refused}
 use Rattle.model.specs.Table.{Row, row_is}
 use Rattle.model.specs.Tree.{WellFormed}
 use Rattle.model.specs.Count.{product}
 use Rattle.model.specs.Value.{horner}
-use Rattle.model.specs.Entries.{open_after, ends_too_soon}
+use Rattle.model.specs.Entries.{open_after, open_at, entry_ground, ends_too_soon}
 use Rattle.model.proofs.Choice.{or_false}
 use Rattle.model.proofs.Lists.{drop_next}
 use Rattle.model.proofs.Rows.{row_is_true}
 use Rattle.model.proofs.Values.{horner_less}
-use Rattle.model.proofs.Entries.{well_formed, open_bound, tree_then_taken}
+use Rattle.model.proofs.Entries.{well_formed, open_bound}
 use Rattle.chains.proofs.First.{first_is}
 use Rattle.rows.specs.Words.{row_no, rows_in}
 use Rattle.rows.proofs.Words.{rows_long}
 use Rattle.index.specs.Index.{row_found}
 use Rattle.counts.specs.Chain.{target}
 use Rattle.counts.specs.States.{held}
-use Rattle.tree.specs.Reading.{fresh, step_of}
-use Rattle.tree.specs.declared.Reading.{Reading}
+use Rattle.tree.specs.Reading.{step}
+use Rattle.tree.specs.declared.Step.{Step}
 use Rattle.tree.specs.declared.Step.TheVariants.{Opens, Closes}
-use Rattle.tree.proofs.Laws.{Read, refusing, opens_by, closes_by, opened, shut, refused_here, begins as read_begins}
-use Rattle.rank.specs.Machine.{Node, formed, node_by, node_of, numbered, run, machine}
-use Rattle.rank.specs.RankReady.{ValuesFit, Closable, Summable, AllCount, RankReady, StackRoom, symbols, begins}
+use Rattle.tree.proofs.Laws.{open_next, opens_so, closes_so}
+use Rattle.rank.specs.Machine.{Node, formed, node_by, node_of, numbered, run}
+use Rattle.rank.specs.RankReady.{ValuesFit, Closable, Summable, AllCount, RankReady}
+use Rattle.rank.specs.Stacked.{top, top_states, top_values, with_open, with_closed}
+use Rattle.rank.specs.Numbered.{ClosableIn, node_in, machine_in}
 use Rattle.rank.specs.declared.OpenNode.{OpenNode}
+use Rattle.rank.specs.declared.Stack.{Stack}
+use Rattle.rank.specs.declared.Numbering.{Numbering}
 use Rattle.rank.proofs.Folding.{valued_below, unformed, formed_is}
 
 -- ---- an array as a stack
 
--- the first d elements, the last first
-unfoldable pub stack_of : ℕ → List ℕ → List ℕ
-stack_of zero xs = []
-stack_of (suc d) xs = get_or xs d 0 ∷ stack_of d xs
+abbrev no_node : OpenNode
+no_node = record { symbol = 0; begin = 0 }
 
--- a store at d or above leaves the first d elements as they are
-stack_same : (d j : ℕ) (xs : List ℕ) (x : ℕ) → d ≤ j → stack_of d (set xs j x) ≡ stack_of d xs
-unfolding stack_of
-stack_same zero j xs x le = refl
-stack_same (suc d) j xs x le = rw (get_or-set_other xs j d x 0 (omega arith), stack_same d j xs x (omega arith))
+-- of the first d nodes a part, the last first
+unfoldable pub stack_of : (OpenNode → ℕ) → ℕ → List OpenNode → List ℕ
+stack_of f zero xs = []
+stack_of f (suc d) xs = f (get_or xs d no_node) ∷ stack_of f d xs
 
-push : (d : ℕ) (xs : List ℕ) (x : ℕ) → d < length xs → stack_of (suc d) (set xs d x) ≡ x ∷ stack_of d xs
+-- a store at d or above leaves the first d nodes as they are
+stack_same : (f : OpenNode → ℕ) (d j : ℕ) (xs : List OpenNode) (x : OpenNode) → d ≤ j → stack_of f d (set xs j x) ≡ stack_of f d xs
 unfolding stack_of
-push d xs x lt = rw (get_or-set_same xs d x 0, stack_same d d xs x (omega arith))
+stack_same f zero j xs x le = refl
+stack_same f (suc d) j xs x le = rw (get_or-set_other xs j d x no_node (omega arith), stack_same f d j xs x (omega arith))
 
-pop : (d : ℕ) (xs : List ℕ) → stack_of (suc d) xs ≡ get_or xs d 0 ∷ stack_of d xs
+push : (f : OpenNode → ℕ) (d : ℕ) (xs : List OpenNode) (x : OpenNode) → d < length xs → stack_of f (d + 1) (set xs d x) ≡ f x ∷ stack_of f d xs
 unfolding stack_of
-pop d xs = refl
+push f d xs x lt = rw (add-one d, get_or-set_same xs d x no_node, stack_same f d d xs x (omega arith))
 
-no_stack : (xs : List ℕ) → stack_of 0 xs ≡ []
+pop : (f : OpenNode → ℕ) (d : ℕ) (xs : List OpenNode) → 0 < d → stack_of f d xs ≡ f (get_or xs (d - 1) no_node) ∷ stack_of f (d - 1) xs
 unfolding stack_of
-no_stack xs = refl
+pop f zero xs p = absurd (omega arith)
+pop f (suc d) xs p = let e : suc d - 1 ≡ d = omega arith in rw e
+
+no_stack : (f : OpenNode → ℕ) (xs : List OpenNode) → stack_of f 0 xs ≡ []
+unfolding stack_of
+no_stack f xs = refl
+
+-- the symbols of the open nodes, the last opened first, and how many states were waiting when each was opened
+abbrev pub open_symbols : Stack → List ℕ
+open_symbols k = stack_of (λ (o : OpenNode). o.symbol) k.depth k.opens.now
+
+abbrev pub open_begins : Stack → List ℕ
+open_begins k = stack_of (λ (o : OpenNode). o.begin) k.depth k.opens.now
+
+-- how many were waiting when the j-th node was opened
+abbrev begin_at : List OpenNode → ℕ → ℕ
+begin_at opens j = (get_or opens j no_node).begin
 
 drop_take : (b n : ℕ) (l : List ℕ) → drop b (take n l) ≡ take (n - b) (drop b l)
 drop_take zero n l = let e : n - 0 ≡ n = omega arith in rw e
 drop_take (suc b) zero l = rw zero-sub
 drop_take (suc b) (suc n) [] = rw take-nil
 drop_take (suc b) (suc n) (x ∷ l) = let e : suc n - suc b ≡ n - b = omega arith in rw e (drop_take b n l)
-
--- ---- the open nodes, by their symbols and by what was waiting
-
-abbrev no_node : OpenNode
-no_node = record { symbol = 0; begin = 0 }
-
-module _ (opens : List OpenNode) (d : ℕ) where
-  pub symbol_at : get_or (symbols opens) d 0 ≡ (get_or opens d no_node).symbol
-  symbol_at = get_or-map (λ (n : OpenNode). n.symbol) opens d no_node
-
-  pub node_at : (rows : List Row) (cs sums xs vs : List ℕ) {o : Node} → node_of rows cs sums (get_or opens d no_node).symbol xs vs ≡ o → node_of rows cs sums (get_or (symbols opens) d 0) xs vs ≡ o
-  node_at rows cs sums xs vs e = rw symbol_at e
-
-  pub begin_at : (b : ℕ) → b ≡ (get_or opens d no_node).begin → b ≡ get_or (begins opens) d 0
-  begin_at b e = e ∙ sym (get_or-map (λ (n : OpenNode). n.begin) opens d no_node)
-
-  pub in_opens : (i : ℕ) → i < length (symbols opens) → i < length opens
-  in_opens i l = rw (length-map opens (λ (n : OpenNode). n.symbol)) at l
-
-  pub node_put : (n : OpenNode) (opens' : List OpenNode) → opens' ≡ set opens d n → (symbols opens' ≡ set (symbols opens) d n.symbol) × (begins opens' ≡ set (begins opens) d n.begin)
-  node_put n opens' e = (ap symbols e ∙ map-set (λ (n : OpenNode). n.symbol) opens d n, ap begins e ∙ map-set (λ (n : OpenNode). n.begin) opens d n)
 
 -- ---- one entry of the machine
 
@@ -115,23 +112,24 @@ module _ (node : ℕ → List ℕ → List ℕ → Node) (end : ℕ → ℕ → 
     unfolding run
     run_stuck h = rw (z, h)
 
--- ---- one entry of the reading
+-- ---- one entry of a tree
 
-pub step_opens : (s t : Reading) (e : ℕ) → step_of s e ≡ Ok (Opens t) → (eqb e 0 ≡ false) × (t.depth ≡ suc s.depth)
-unfolding step_of
-step_opens s t e p =
-    let h = opens_by (refusing s e) (eqb e 0) _ _ _ t p in
-    (h.1, ap (λ (r : Reading). r.depth) h.2 ∙ add-one s.depth)
-
-pub step_closes : (s t : Reading) (e : ℕ) → step_of s e ≡ Ok (Closes t) → (eqb e 0 ≡ true) × (s.depth ≡ suc t.depth)
-unfolding step_of
-step_closes s t e p =
-    let h = closes_by (refusing s e) (eqb e 0) _ _ _ t p in
-    let a = or_false (ltb 255 e || (eqb e 0 && eqb s.depth 0)) (ltb 0 s.place && eqb s.depth 0) h.0 in
-    let b : (eqb e 0 && eqb s.depth 0) ≡ false = (or_false (ltb 255 e) (eqb e 0 && eqb s.depth 0) a.0).1 in
-    let n : eqb s.depth 0 ≡ false = rw h.1 at b in
-    let d : t.depth ≡ s.depth - 1 = ap (λ (r : Reading). r.depth) h.2 in
-    (h.1, omega (arith, pos_of_ne-zero (eqb-false s.depth 0 n)))
+-- a bar of a tree has a node open
+module _ {tree : List ℕ} {i : ℕ} (well : WellFormed tree) (l : i < length tree) where
+  bar_open : eqb (get_or tree i 0) 0 ≡ true → 0 < open_at tree i
+  unfolding entry_ground
+  bar_open z =
+      let e = get_or tree i 0 in
+      let d = open_at tree i in
+      let none : (ltb 255 e || (eqb e 0 && eqb d 0) || (ltb 0 i && eqb d 0)) ≡ false = no_ground _ ((well_formed tree well).sound i l) in
+      let a = or_false (ltb 255 e || (eqb e 0 && eqb d 0)) (ltb 0 i && eqb d 0) none in
+      let b : (eqb e 0 && eqb d 0) ≡ false = (or_false (ltb 255 e) (eqb e 0 && eqb d 0) a.0).1 in
+      let n : eqb d 0 ≡ false = rw z at b in
+      pos_of_ne-zero (eqb-false d 0 n)
+    where
+      no_ground : (b : Bool) → ◌≡◌ {A = ℕ} (if b then 13 else 0) 0 → b ≡ false
+      no_ground true e = let y : ◌≡◌ {A = ℕ} 0 1 = cc in absurd (omega arith)
+      no_ground false e = refl
 
 -- ---- a closed node
 
@@ -202,252 +200,250 @@ module _ {by : ℕ} {pool words heads accepting cs sums : List ℕ} (ready : Ran
 
 -- ---- the entries in turn
 
--- i entries are read: the open nodes and what waits stand in the arrays, and the machine goes on from there
-pub record Running (by : ℕ) (pool words heads accepting cs sums tree opens₀ begins₀ waiting₀ values₀ opens begins waiting values : List ℕ) (w : ℕ) (s : Reading) (i : ℕ) : Type 0 where
-  pub ready : ∥ RankReady by pool words heads accepting cs sums ∥₁
-  pub reads : Read tree s i
-  pub space : StackRoom tree opens₀ begins₀ waiting₀ values₀
-  pub opens_long : length opens ≡ length opens₀
-  pub begins_long : length begins ≡ length begins₀
-  pub waiting_long : length waiting ≡ length waiting₀
-  pub values_long : length values ≡ length values₀
+abbrev Ready : Numbering → Type 0
+Ready n = RankReady n.index.by n.index.rows.pool.now n.index.rows.words.now n.index.heads.now n.accepting.now n.counts.now n.sums.now
+
+-- the machine from a stack on
+abbrev run_on : Numbering → Stack → ℕ → List ℕ → Outcome
+run_on n k i es = run (node_in n) (numbered n.accepting.now n.counts.now) (open_symbols k) (open_begins k) (take k.waits k.waiting.now) (take k.waits k.values.now) i es
+
+-- i entries are read: the stack holds the open nodes and what waits, and the machine goes on from there
+pub record Running (n : Numbering) (tree : List ℕ) (k : Stack) (i : ℕ) : Type 0 where
+  pub well : WellFormed tree
+  pub few : length tree ≤ 4096
+  pub within : i ≤ length tree
+  pub depth_is : k.depth ≡ open_at tree i
+  pub opens_long : length k.opens.now ≡ 2048
+  pub waiting_long : length k.waiting.now ≡ 2048
+  pub values_long : length k.values.now ≡ 2048
   -- a state that waits has used two entries, an open node one
-  pub room : 2 * w + s.depth ≤ i
-  pub deep : 2 * s.depth ≤ length tree
-  pub some : 0 < i → 0 < s.depth + w
-  pub under : (j : ℕ) → j < s.depth → get_or begins j 0 ≤ w
-  pub sorted : (j k : ℕ) → j ≤ k → k < s.depth → get_or begins j 0 ≤ get_or begins k 0
-  pub placed : (j : ℕ) → j < w → get_or waiting j 0 < length cs
-  pub reached : (x : RankReady by pool words heads accepting cs sums) (j : ℕ) → j < w → 0 < x.whole (get_or waiting j 0)
-  pub below : (j : ℕ) → j < w → get_or values j 0 < max 1 (held cs (get_or waiting j 0))
-  pub same : run (node_of (rows_in pool words) cs sums) (numbered accepting cs) (stack_of s.depth opens) (stack_of s.depth begins) (take w waiting) (take w values) i (drop i tree)
-      ≡ machine (rows_in pool words) accepting cs sums tree
+  pub room : 2 * k.waits + k.depth ≤ i
+  pub deep : 2 * k.depth ≤ length tree
+  pub some : 0 < i → 0 < k.depth + k.waits
+  pub under : (j : ℕ) → j < k.depth → begin_at k.opens.now j ≤ k.waits
+  pub sorted : (j m : ℕ) → j ≤ m → m < k.depth → begin_at k.opens.now j ≤ begin_at k.opens.now m
+  pub placed : (j : ℕ) → j < k.waits → get_or k.waiting.now j 0 < length n.counts.now
+  pub reached : (x : Ready n) (j : ℕ) → j < k.waits → 0 < x.whole (get_or k.waiting.now j 0)
+  pub below : (j : ℕ) → j < k.waits → get_or k.values.now j 0 < max 1 (held n.counts.now (get_or k.waiting.now j 0))
+  pub same : run_on n k i (drop i tree) ≡ machine_in n tree
 
--- arrays of n zeros, where there are at most twice as many entries
-pub zeros_room : (tree : List ℕ) (n : ℕ) → length tree ≤ 4096 → length tree ≤ 2 * n → StackRoom tree (replicate n 0) (replicate n 0) (replicate n 0) (replicate n 0)
-zeros_room tree n short l =
-    let e : length {A = ℕ} (replicate n 0) ≡ n = length-replicate {A = ℕ} n 0 in
-    record { short = short; opens_room = rw e l; begins_room = rw e l; waiting_room = rw e l; values_room = rw e l }
-
-pub running_begins : {by : ℕ} {pool words heads accepting cs sums : List ℕ} (tree opens begins waiting values : List ℕ) (s : Reading) → ∥ RankReady by pool words heads accepting cs sums ∥₁ → StackRoom tree opens begins waiting values → s ≡ fresh
-    → Running by pool words heads accepting cs sums tree opens begins waiting values opens begins waiting values 0 s 0
-running_begins tree opens begins waiting values s ready space e =
-    let d : s.depth ≡ 0 = ap (λ (r : Reading). r.depth) e in
+pub running_begins : (n : Numbering) (tree : List ℕ) (k : Stack) → WellFormed tree → length tree ≤ 4096 → (k.depth ≡ 0) × (k.waits ≡ 0)
+    → (length k.opens.now ≡ 2048) × (length k.waiting.now ≡ 2048) × (length k.values.now ≡ 2048) → Running n tree k 0
+unfolding open_after
+running_begins n tree k well few z long =
     record {
-      ready = ready;
-      reads = read_begins tree s space.short e;
-      space = space;
-      opens_long = refl;
-      begins_long = refl;
-      waiting_long = refl;
-      values_long = refl;
-      room = omega arith;
-      deep = omega arith;
+      well = well;
+      few = few;
+      within = omega arith;
+      depth_is = z.0;
+      opens_long = long.0;
+      waiting_long = long.1;
+      values_long = long.2;
+      room = omega (arith, z.0, z.1);
+      deep = omega (arith, z.0);
       some = λ l. absurd (omega arith);
-      under = λ j l. absurd (omega arith);
-      sorted = λ j k le l. absurd (omega arith);
-      placed = λ j l. absurd (omega arith);
-      reached = λ x j l. absurd (omega arith);
-      below = λ j l. absurd (omega arith);
-      same = rw (d, no_stack opens, no_stack begins);
+      under = λ j l. absurd (omega (arith, z.0));
+      sorted = λ j m le l. absurd (omega (arith, z.0));
+      placed = λ j l. absurd (omega (arith, z.1));
+      reached = λ x j l. absurd (omega (arith, z.1));
+      below = λ j l. absurd (omega (arith, z.1));
+      same = rw (z.0, z.1, no_stack (λ (o : OpenNode). o.symbol) k.opens.now, no_stack (λ (o : OpenNode). o.begin) k.opens.now);
     }
 
-module _ {by : ℕ} {pool words heads accepting cs sums tree opens₀ begins₀ waiting₀ values₀ opens begins waiting values : List ℕ} {w : ℕ} {s : Reading} {i : ℕ}
-    (r : Running by pool words heads accepting cs sums tree opens₀ begins₀ waiting₀ values₀ opens begins waiting values w s i) where
-  abbrev rows : List Row
-  rows = rows_in pool words
+module _ {n : Numbering} {tree : List ℕ} {k : Stack} {i : ℕ} (r : Running n tree k i) where
+  abbrev cs : List ℕ
+  cs = n.counts.now
 
-  -- what waits has its place
-  pub few_wait : (w ≤ 2048) × (w ≤ length waiting) × (w ≤ length values)
-  few_wait = (
-    omega (arith, r.room, r.reads.within, r.reads.few),
-    omega (arith, r.room, r.reads.within, r.waiting_long, r.space.waiting_room),
-    omega (arith, r.room, r.reads.within, r.values_long, r.space.values_room),
-  )
+  few_wait : (k.waits ≤ 2048) × (k.waits ≤ length k.waiting.now) × (k.waits ≤ length k.values.now)
+  few_wait = let w : k.waits ≤ 2048 = omega (arith, r.room, r.within, r.few) in (w, omega (arith, r.waiting_long), omega (arith, r.values_long))
 
   module _ (l : i < length tree) where
     -- the entry at hand, and the entries after it
-    here : run (node_of rows cs sums) (numbered accepting cs) (stack_of s.depth opens) (stack_of s.depth begins) (take w waiting) (take w values) i (get_or tree i 0 ∷ drop (i + 1) tree)
-        ≡ machine rows accepting cs sums tree
+    here : run_on n k i (get_or tree i 0 ∷ drop (i + 1) tree) ≡ machine_in n tree
     here = rw (drop_next tree i l) at r.same
 
     -- the entry opens a node
-    module _ (t : Reading) (e : step_of s (get_or tree i 0) ≡ Ok (Opens t)) (well : WellFormed tree) where
-      open_deep : 2 * t.depth ≤ length tree
-      open_deep = let x = opened r.reads l t e in omega (arith, x.depth_is, open_bound tree well (i + 1) x.within)
+    module _ {x : Step} (of : x ≡ step (get_or tree i 0)) (is : x ≡ Opens) where
+      no_bar : eqb (get_or tree i 0) 0 ≡ false
+      no_bar = opens_so (eqb (get_or tree i 0) 0) (sym is ∙ of)
 
-      pub open_room : (t.depth - 1 < length opens) × (t.depth - 1 < length begins) × (1 ≤ t.depth)
-      open_room =
-          let up : t.depth ≡ suc s.depth = (step_opens s t (get_or tree i 0) e).1 in
-          (omega (arith, open_deep, r.opens_long, r.space.opens_room), omega (arith, open_deep, r.begins_long, r.space.begins_room), omega arith)
+      one_more : k.depth + 1 ≡ open_at tree (i + 1)
+      one_more = omega (arith, r.depth_is, rw no_bar at (open_next tree i l))
 
-      open_same : (d : ℕ) → d ≡ s.depth → d < length opens → d < length begins
-          → run (node_of rows cs sums) (numbered accepting cs) (stack_of (suc d) (set opens d (get_or tree i 0))) (stack_of (suc d) (set begins d w)) (take w waiting) (take w values) (i + 1) (drop (i + 1) tree)
-          ≡ machine rows accepting cs sums tree
-      open_same d q mo mb =
-          let size : length (take w waiting) ≡ w = length-take-le w waiting few_wait.1 in
-          let h = sym (run_open (node_of rows cs sums) (numbered accepting cs) (stack_of s.depth opens) (stack_of s.depth begins) (take w waiting) (take w values) i (get_or tree i 0) (drop (i + 1) tree)
-          (step_opens s t (get_or tree i 0) e).0) ∙ here in
-          rw (push d opens (get_or tree i 0) mo, push d begins w mb, q) (rw size at h)
+      open_deep : 2 * (k.depth + 1) ≤ length tree
+      open_deep = omega (arith, one_more, open_bound tree r.well (i + 1) (omega arith))
 
-      pub node_opens : (opens' begins' : List ℕ) → (opens' ≡ set opens (t.depth - 1) (get_or tree i 0)) × (begins' ≡ set begins (t.depth - 1) w)
-          → Running by pool words heads accepting cs sums tree opens₀ begins₀ waiting₀ values₀ opens' begins' waiting values w t (i + 1)
-      node_opens opens' begins' stored =
-          let up : t.depth ≡ suc s.depth = (step_opens s t (get_or tree i 0) e).1 in
-          let q : t.depth - 1 ≡ s.depth = omega arith in
-          let top : t.depth ≡ t.depth - 1 + 1 = omega arith in
-          let there : get_or (set begins (t.depth - 1) w) (t.depth - 1) 0 ≡ w = get_or-set_same begins (t.depth - 1) w 0 open_room.1 in
-          let other : (j : ℕ) → j < t.depth - 1 → get_or (set begins (t.depth - 1) w) j 0 ≡ get_or begins j 0 = λ j lt. get_or-set_other begins (t.depth - 1) j w 0 (omega arith) in
-          let under' : (j : ℕ) → j < t.depth - 1 + 1 → get_or (set begins (t.depth - 1) w) j 0 ≤ w
-          = below_more (λ (j : ℕ). get_or (set begins (t.depth - 1) w) j 0 ≤ w) (t.depth - 1) (λ j lt. rw (other j lt) (r.under j (omega arith))) (rw there (omega arith)) in
-          rw (stored.0, stored.1) (record {
-            ready = r.ready;
-            reads = opened r.reads l t e;
-            space = r.space;
-            opens_long = length-set opens (t.depth - 1) (get_or tree i 0) ∙ r.opens_long;
-            begins_long = length-set begins (t.depth - 1) w ∙ r.begins_long;
+      pub open_room : (k.depth < length k.opens.now) × (k.waits ≤ 2048)
+      open_room = (omega (arith, open_deep, r.few, r.opens_long), few_wait.0)
+
+      open_same : run_on n (with_open k (get_or tree i 0)) (i + 1) (drop (i + 1) tree) ≡ machine_in n tree
+      open_same =
+          let size : length (take k.waits k.waiting.now) ≡ k.waits = length-take-le k.waits k.waiting.now few_wait.1 in
+          let lt : k.depth < length k.opens.now = open_room.0 in
+          let h = sym (run_open (node_in n) (numbered n.accepting.now cs) (open_symbols k) (open_begins k) (take k.waits k.waiting.now) (take k.waits k.values.now) i (get_or tree i 0) (drop (i + 1) tree)
+          no_bar) ∙ here in
+          rw (push (λ (o : OpenNode). o.symbol) k.depth k.opens.now (record { symbol = get_or tree i 0; begin = k.waits }) lt, push (λ (o : OpenNode). o.begin) k.depth k.opens.now (record { symbol = get_or tree i 0; begin = k.waits }) lt)
+          (rw size at h)
+
+      pub node_opens : Running n tree (with_open k (get_or tree i 0)) (i + 1)
+      node_opens =
+          let new : OpenNode = record { symbol = get_or tree i 0; begin = k.waits } in
+          let lt : k.depth < length k.opens.now = open_room.0 in
+          let there : begin_at (set k.opens.now k.depth new) k.depth ≡ k.waits = ap (λ (o : OpenNode). o.begin) (get_or-set_same k.opens.now k.depth new no_node lt) in
+          let other : (j : ℕ) → j < k.depth → begin_at (set k.opens.now k.depth new) j ≡ begin_at k.opens.now j = λ j m. ap (λ (o : OpenNode). o.begin) (get_or-set_other k.opens.now k.depth j new no_node (omega arith)) in
+          let under' : (j : ℕ) → j < k.depth + 1 → begin_at (set k.opens.now k.depth new) j ≤ k.waits
+          = below_more (λ (j : ℕ). begin_at (set k.opens.now k.depth new) j ≤ k.waits) k.depth (λ j m. rw (other j m) (r.under j m)) (rw there (omega arith)) in
+          record {
+            well = r.well;
+            few = r.few;
+            within = omega arith;
+            depth_is = one_more;
+            opens_long = length-set k.opens.now k.depth new ∙ r.opens_long;
             waiting_long = r.waiting_long;
             values_long = r.values_long;
             room = omega (arith, r.room);
             deep = open_deep;
             some = λ p. omega arith;
-            under = λ j lt. under' j (omega arith);
-            sorted = λ j k le lt.
-                below_more (λ (m : ℕ). j ≤ m → get_or (set begins (t.depth - 1) w) j 0 ≤ get_or (set begins (t.depth - 1) w) m 0) (t.depth - 1)
-                (λ m lm le2. rw (other j (omega arith), other m lm) (r.sorted j m le2 (omega arith)))
-                (λ le2. rw there (under' j (omega arith))) k (omega arith) le;
+            under = under';
+            sorted = λ j m le lm.
+                below_more (λ (m : ℕ). j ≤ m → begin_at (set k.opens.now k.depth new) j ≤ begin_at (set k.opens.now k.depth new) m) k.depth
+                (λ m lm le2. rw (other j (omega arith), other m lm) (r.sorted j m le2 lm))
+                (λ le2. rw there (under' j (omega arith))) m lm le;
             placed = r.placed;
             reached = r.reached;
             below = r.below;
-            same =
-                ap (λ (k : ℕ). run (node_of rows cs sums) (numbered accepting cs) (stack_of k (set opens (t.depth - 1) (get_or tree i 0))) (stack_of k (set begins (t.depth - 1) w)) (take w waiting) (take w values) (i + 1) (drop (i + 1) tree))
-                (top ∙ add-one (t.depth - 1))
-                ∙ open_same (t.depth - 1) q open_room.0 open_room.1;
-          })
-
-    -- the entry closes a node, whose children stand from b on among those that wait
-    module _ (t : Reading) (e : step_of s (get_or tree i 0) ≡ Ok (Closes t)) (b : ℕ) (at : b ≡ get_or begins t.depth 0) where
-      deeper : s.depth ≡ suc t.depth
-      deeper = (step_closes s t (get_or tree i 0) e).1
-
-      pub close_depth : (t.depth < length opens) × (t.depth < length begins) × (t.depth < 2048)
-      close_depth = (
-        omega (arith, deeper, r.deep, r.opens_long, r.space.opens_room),
-        omega (arith, deeper, r.deep, r.begins_long, r.space.begins_room),
-        omega (arith, deeper, r.deep, r.space.short),
-      )
-
-      pub close_under : b ≤ w
-      close_under = rw at (r.under t.depth (omega (arith, deeper)))
-
-      pub close_room : (b < length waiting) × (b < length values) × (b < 2048)
-      close_room = (
-        omega (arith, close_under, deeper, r.room, r.reads.within, r.waiting_long, r.space.waiting_room),
-        omega (arith, close_under, deeper, r.room, r.reads.within, r.values_long, r.space.values_room),
-        omega (arith, close_under, deeper, r.room, r.reads.within, r.space.short),
-      )
-
-      -- the children's states and values
-      children : (x : RankReady by pool words heads accepting cs sums) → Children x.whole cs (take (w - b) (drop b waiting)) (take (w - b) (drop b values))
-      children x =
-          let len_w : length (take (w - b) (drop b waiting)) ≡ w - b = length-take-le (w - b) (drop b waiting) (rw (length-drop b waiting) (omega (arith, few_wait.1, close_under))) in
-          let len_v : length (take (w - b) (drop b values)) ≡ w - b = length-take-le (w - b) (drop b values) (rw (length-drop b values) (omega (arith, few_wait.2, close_under))) in
-          let at_w : (k : ℕ) → k < w - b → get_or (take (w - b) (drop b waiting)) k 0 ≡ get_or waiting (b + k) 0 = λ k lt. get_or-take (w - b) (drop b waiting) k 0 lt ∙ get_or-drop b waiting k 0 in
-          let at_v : (k : ℕ) → k < w - b → get_or (take (w - b) (drop b values)) k 0 ≡ get_or values (b + k) 0 = λ k lt. get_or-take (w - b) (drop b values) k 0 lt ∙ get_or-drop b values k 0 in
-          record {
-            many = len_v ∙ sym len_w;
-            placed = λ k lt. let lk : k < w - b = rw len_w at lt in rw (at_w k lk) (r.placed (b + k) (omega arith));
-            reached = λ k lt. let lk : k < w - b = rw len_w at lt in rw (at_w k lk) (r.reached x (b + k) (omega arith));
-            below = λ k lt. let lk : k < w - b = rw len_w at lt in rw (at_w k lk, at_v k lk) (r.below (b + k) (omega arith));
+            same = open_same;
           }
 
-      pub close_fits : Closable rows cs sums (get_or opens t.depth 0) (take (w - b) (drop b waiting)) (take (w - b) (drop b values))
-      close_fits = ∥∥₁_elim r.ready (Prim.hlevel props) (λ x. closes_within x (get_or opens t.depth 0) (take (w - b) (drop b waiting)) (take (w - b) (drop b values)) (children x))
+    -- the entry closes the node opened last
+    module _ {x : Step} (of : x ≡ step (get_or tree i 0)) (is : x ≡ Closes) where
+      bar : eqb (get_or tree i 0) 0 ≡ true
+      bar = closes_so (eqb (get_or tree i 0) 0) (sym is ∙ of)
+
+      some_open : 0 < k.depth
+      some_open = omega (arith, r.depth_is, bar_open r.well l bar)
+
+      one_less : k.depth - 1 ≡ open_at tree (i + 1)
+      one_less = omega (arith, r.depth_is, rw bar at (open_next tree i l))
+
+      under_here : (top k).begin ≤ k.waits
+      under_here = r.under (k.depth - 1) (omega (arith, some_open))
+
+      deep_enough : k.depth ≤ length k.opens.now
+      deep_enough = omega (arith, r.deep, r.few, r.opens_long)
+
+      pub top_room : (0 < k.depth) × (k.depth ≤ length k.opens.now) × ((top k).begin ≤ k.waits) × (k.waits ≤ length k.waiting.now) × (k.waits ≤ length k.values.now)
+      top_room = (some_open, deep_enough, under_here, few_wait.1, few_wait.2)
+
+      few_here : (top k).begin < 2048
+      few_here = omega (arith, under_here, some_open, r.room, r.within, r.few)
+
+      pub close_room : (0 < k.depth) × (k.depth ≤ length k.opens.now) × ((top k).begin < length k.waiting.now) × ((top k).begin < length k.values.now)
+      close_room = (some_open, deep_enough, omega (arith, few_here, r.waiting_long), omega (arith, few_here, r.values_long))
+
+      -- the children's states and values
+      children : (x : Ready n) → Children x.whole cs (top_states k) (top_values k)
+      children x =
+          let b = (top k).begin in
+          let size = k.waits - b in
+          let len_w : length (top_states k) ≡ size = length-take-le size (drop b k.waiting.now) (rw (length-drop b k.waiting.now) (omega (arith, few_wait.1, under_here))) in
+          let len_v : length (top_values k) ≡ size = length-take-le size (drop b k.values.now) (rw (length-drop b k.values.now) (omega (arith, few_wait.2, under_here))) in
+          let at_w : (j : ℕ) → j < size → get_or (top_states k) j 0 ≡ get_or k.waiting.now (b + j) 0 = λ j m. get_or-take size (drop b k.waiting.now) j 0 m ∙ get_or-drop b k.waiting.now j 0 in
+          let at_v : (j : ℕ) → j < size → get_or (top_values k) j 0 ≡ get_or k.values.now (b + j) 0 = λ j m. get_or-take size (drop b k.values.now) j 0 m ∙ get_or-drop b k.values.now j 0 in
+          record {
+            many = len_v ∙ sym len_w;
+            placed = λ j m. let m' : j < size = rw len_w at m in rw (at_w j m') (r.placed (b + j) (omega arith));
+            reached = λ j m. let m' : j < size = rw len_w at m in rw (at_w j m') (r.reached x (b + j) (omega arith));
+            below = λ j m. let m' : j < size = rw len_w at m in rw (at_w j m', at_v j m') (r.below (b + j) (omega arith));
+          }
+
+      pub close_fits : ClosableIn n (top k).symbol (top_states k) (top_values k)
+      close_fits = ∥∥₁_elim n.ready (Prim.hlevel props) (λ (x : Ready n). closes_within x (top k).symbol (top_states k) (top_values k) (children x))
 
       -- the machine at the bar
-      at_bar : run (node_of rows cs sums) (numbered accepting cs) (get_or opens t.depth 0 ∷ stack_of t.depth opens) (b ∷ stack_of t.depth begins) (take w waiting) (take w values) i (get_or tree i 0 ∷ drop (i + 1) tree)
-          ≡ machine rows accepting cs sums tree
-      at_bar = rw (at, ← (pop t.depth opens), ← (pop t.depth begins), ← deeper) here
+      abbrev lower_symbols : List ℕ
+      lower_symbols = stack_of (λ (o : OpenNode). o.symbol) (k.depth - 1) k.opens.now
 
-      parts : (o : Node) → node_of rows cs sums (get_or opens t.depth 0) (take (w - b) (drop b waiting)) (take (w - b) (drop b values)) ≡ o
-          → node_of rows cs sums (get_or opens t.depth 0) (drop b (take w waiting)) (drop b (take w values)) ≡ o
-      parts o h = rw (drop_take b w waiting, drop_take b w values) h
+      abbrev lower_begins : List ℕ
+      lower_begins = stack_of (λ (o : OpenNode). o.begin) (k.depth - 1) k.opens.now
 
-      pub node_sticks : node_of rows cs sums (get_or opens t.depth 0) (take (w - b) (drop b waiting)) (take (w - b) (drop b values)) ≡ None
-          → refused 14 i ≡ machine rows accepting cs sums tree
+      at_bar : run (node_in n) (numbered n.accepting.now cs) ((top k).symbol ∷ lower_symbols) ((top k).begin ∷ lower_begins) (take k.waits k.waiting.now) (take k.waits k.values.now) i (get_or tree i 0 ∷ drop (i + 1) tree) ≡ machine_in n tree
+      at_bar = rw (pop (λ (o : OpenNode). o.symbol) k.depth k.opens.now top_room.0, pop (λ (o : OpenNode). o.begin) k.depth k.opens.now top_room.0) at here
+
+      parts : {o : Node} → node_in n (top k).symbol (top_states k) (top_values k) ≡ o
+          → node_in n (top k).symbol (drop (top k).begin (take k.waits k.waiting.now)) (drop (top k).begin (take k.waits k.values.now)) ≡ o
+      parts h = rw (drop_take (top k).begin k.waits k.waiting.now, drop_take (top k).begin k.waits k.values.now) h
+
+      pub node_sticks : node_in n (top k).symbol (top_states k) (top_values k) ≡ None → refused 14 i ≡ machine_in n tree
       node_sticks h =
-          sym (run_stuck (node_of rows cs sums) (numbered accepting cs) (stack_of t.depth opens) (stack_of t.depth begins) (take w waiting) (take w values) i
-          (get_or opens t.depth 0) b (get_or tree i 0) (drop (i + 1) tree) (step_closes s t (get_or tree i 0) e).0 (parts None h))
+          sym (run_stuck (node_in n) (numbered n.accepting.now cs) lower_symbols lower_begins (take k.waits k.waiting.now) (take k.waits k.values.now) i
+          (top k).symbol (top k).begin (get_or tree i 0) (drop (i + 1) tree) bar (parts h))
           ∙ at_bar
 
-      -- the front of an array after the store at b
-      front : (xs : List ℕ) (x : ℕ) → b < length xs → take (b + 1) (set xs b x) ≡ take b (take w xs) ++ (x ∷ [])
-      front xs x lt = rw (add-one b, take-suc-set xs b x lt, take-take b w xs close_under)
+      -- the front of an array after the store
+      front : (xs : List ℕ) (x : ℕ) → (top k).begin < length xs → take ((top k).begin + 1) (set xs (top k).begin x) ≡ take (top k).begin (take k.waits xs) ++ (x ∷ [])
+      front xs x lt = rw (add-one (top k).begin, take-suc-set xs (top k).begin x lt, take-take (top k).begin k.waits xs under_here)
 
-      pub node_closes : (q v : ℕ)
-          → node_of rows cs sums (get_or opens t.depth 0) (take (w - b) (drop b waiting)) (take (w - b) (drop b values)) ≡ Some (q, v)
-          → (waiting' values' : List ℕ) → (waiting' ≡ set waiting b q) × (values' ≡ set values b v)
-          → Running by pool words heads accepting cs sums tree opens₀ begins₀ waiting₀ values₀ opens begins waiting' values' (b + 1) t (i + 1)
-      node_closes q v h waiting' values' stored =
-          let node = λ (x : RankReady by pool words heads accepting cs sums). node_below x (get_or opens t.depth 0) (take (w - b) (drop b waiting)) (take (w - b) (drop b values)) (children x) q v h in
-          let here_w : get_or (set waiting b q) b 0 ≡ q = get_or-set_same waiting b q 0 close_room.0 in
-          let here_v : get_or (set values b v) b 0 ≡ v = get_or-set_same values b v 0 close_room.1 in
-          let other_w : (j : ℕ) → j < b → get_or (set waiting b q) j 0 ≡ get_or waiting j 0 = λ j lt. get_or-set_other waiting b j q 0 (omega arith) in
-          let other_v : (j : ℕ) → j < b → get_or (set values b v) j 0 ≡ get_or values j 0 = λ j lt. get_or-set_other values b j v 0 (omega arith) in
-          rw (stored.0, stored.1) (record {
-            ready = r.ready;
-            reads = shut r.reads l t e;
-            space = r.space;
-            opens_long = r.opens_long;
-            begins_long = r.begins_long;
-            waiting_long = length-set waiting b q ∙ r.waiting_long;
-            values_long = length-set values b v ∙ r.values_long;
-            room = omega (arith, r.room, close_under, deeper);
-            deep = omega (arith, r.deep, deeper);
-            some = λ p. omega arith;
-            under = λ j lt. omega (arith, at, r.sorted j t.depth (omega arith) (omega (arith, deeper)));
-            sorted = λ j k le lt. r.sorted j k le (omega (arith, deeper));
-            placed = below_more (λ (j : ℕ). get_or (set waiting b q) j 0 < length cs) b (λ j lt. rw (other_w j lt) (r.placed j (omega (arith, close_under)))) (rw here_w (∥∥₁_elim r.ready le_prop (λ x. (node x).0)));
-            reached = λ x. below_more (λ (j : ℕ). 0 < x.whole (get_or (set waiting b q) j 0)) b (λ j lt. rw (other_w j lt) (r.reached x j (omega (arith, close_under)))) (rw here_w (node x).1);
-            below = below_more (λ (j : ℕ). get_or (set values b v) j 0 < max 1 (held cs (get_or (set waiting b q) j 0))) b
-                (λ j lt. rw (other_w j lt, other_v j lt) (r.below j (omega (arith, close_under)))) (rw (here_w, here_v) (∥∥₁_elim r.ready le_prop (λ x. (node x).2)));
-            same =
-                rw (front waiting q close_room.0, front values v close_room.1)
-                (sym (run_close (node_of rows cs sums) (numbered accepting cs) (stack_of t.depth opens) (stack_of t.depth begins) (take w waiting) (take w values) i
-                (get_or opens t.depth 0) b (get_or tree i 0) (drop (i + 1) tree) (step_closes s t (get_or tree i 0) e).0 q v (parts (Some (q, v)) h))
-                ∙ at_bar);
-          })
+      module _ (q v : ℕ) (h : node_in n (top k).symbol (top_states k) (top_values k) ≡ Some (q, v)) where
+        close_same : run_on n (with_closed k q v) (i + 1) (drop (i + 1) tree) ≡ machine_in n tree
+        close_same =
+            rw (front k.waiting.now q close_room.2, front k.values.now v close_room.3)
+            (sym (run_close (node_in n) (numbered n.accepting.now cs) lower_symbols lower_begins (take k.waits k.waiting.now) (take k.waits k.values.now) i
+            (top k).symbol (top k).begin (get_or tree i 0) (drop (i + 1) tree) bar q v (parts h))
+            ∙ at_bar)
 
-    -- no entry of a tree is refused
-    pub not_refused : (f : Refusal) → step_of s (get_or tree i 0) ≡ Err f → WellFormed tree → refused_by f ≡ machine rows accepting cs sums tree
-    not_refused f e well =
-        let z : refused_by f ≡ result 0 = refused_here r.reads l f e (result 0) ∙ tree_then_taken tree well r.reads.few (result 0) in
-        let y : ◌≡◌ {A = ℕ} 0 1 = cc in
-        absurd (omega arith)
+        pub node_closes : Running n tree (with_closed k q v) (i + 1)
+        node_closes =
+            let b = (top k).begin in
+            let node = λ (x : Ready n). node_below x (top k).symbol (top_states k) (top_values k) (children x) q v h in
+            let here_w : get_or (set k.waiting.now b q) b 0 ≡ q = get_or-set_same k.waiting.now b q 0 close_room.2 in
+            let here_v : get_or (set k.values.now b v) b 0 ≡ v = get_or-set_same k.values.now b v 0 close_room.3 in
+            let other_w : (j : ℕ) → j < b → get_or (set k.waiting.now b q) j 0 ≡ get_or k.waiting.now j 0 = λ j m. get_or-set_other k.waiting.now b j q 0 (omega arith) in
+            let other_v : (j : ℕ) → j < b → get_or (set k.values.now b v) j 0 ≡ get_or k.values.now j 0 = λ j m. get_or-set_other k.values.now b j v 0 (omega arith) in
+            record {
+              well = r.well;
+              few = r.few;
+              within = omega arith;
+              depth_is = one_less;
+              opens_long = r.opens_long;
+              waiting_long = length-set k.waiting.now b q ∙ r.waiting_long;
+              values_long = length-set k.values.now b v ∙ r.values_long;
+              room = omega (arith, r.room, under_here, some_open);
+              deep = omega (arith, r.deep, some_open);
+              some = λ p. omega arith;
+              under = λ j m. omega (arith, r.sorted j (k.depth - 1) (omega arith) (omega (arith, some_open)));
+              sorted = λ j m le lm. r.sorted j m le (omega (arith, some_open));
+              placed = below_more (λ (j : ℕ). get_or (set k.waiting.now b q) j 0 < length cs) b (λ j m. rw (other_w j m) (r.placed j (omega (arith, under_here)))) (rw here_w (∥∥₁_elim n.ready le_prop (λ (x : Ready n). (node x).0)));
+              reached = λ x. below_more (λ (j : ℕ). 0 < x.whole (get_or (set k.waiting.now b q) j 0)) b (λ j m. rw (other_w j m) (r.reached x j (omega (arith, under_here)))) (rw here_w (node x).1);
+              below = below_more (λ (j : ℕ). get_or (set k.values.now b v) j 0 < max 1 (held cs (get_or (set k.waiting.now b q) j 0))) b
+                  (λ j m. rw (other_w j m, other_v j m) (r.below j (omega (arith, under_here)))) (rw (here_w, here_v) (∥∥₁_elim n.ready le_prop (λ (x : Ready n). (node x).2)));
+              same = close_same;
+            }
 
   -- all entries are read: the root's state waits, alone
-  module _ (g : length tree ≤ i) (well : WellFormed tree) where
+  module _ (g : length tree ≤ i) where
     ends : (eqb (length tree) 0 ≡ false) × (ltb 0 (open_after 0 tree) ≡ false)
     unfolding ends_too_soon
-    ends = or_false (eqb (length tree) 0) (ltb 0 (open_after 0 tree)) (well_formed tree well).enough
+    ends = or_false (eqb (length tree) 0) (ltb 0 (open_after 0 tree)) (well_formed tree r.well).enough
 
     pub some_read : 1 ≤ length tree
     some_read = pos_of_ne-zero (eqb-false (length tree) 0 ends.0)
 
-    one_waits : 0 < w
+    one_waits : 0 < k.waits
     one_waits =
-        let d : s.depth ≡ open_after 0 tree = r.reads.depth_is ∙ ap (open_after 0) (take_all i tree g) in
+        let d : k.depth ≡ open_after 0 tree = r.depth_is ∙ ap (open_after 0) (take_all i tree g) in
         omega (arith, r.some (omega (arith, g, some_read)), ltb-false 0 (open_after 0 tree) ends.1)
 
-    pub end_room : (0 < length waiting) × (0 < length values)
-    end_room = (omega (arith, one_waits, few_wait.1), omega (arith, one_waits, few_wait.2))
+    pub end_sums : Summable n.accepting.now cs (get_or k.waiting.now 0 0) (get_or k.values.now 0 0)
+    end_sums = record {
+      below = r.below 0 one_waits;
+      placed = λ j m. ∥∥₁_elim n.ready le_prop (λ (x : Ready n). x.placed j m);
+      small = ∥∥₁_elim n.ready le_prop (λ (x : Ready n). x.total);
+    }
 
-    pub end_sums : Summable accepting cs (get_or waiting 0 0) (get_or values 0 0)
-    end_sums = record { below = r.below 0 one_waits; placed = λ k l. ∥∥₁_elim r.ready le_prop (λ x. x.placed k l); small = ∥∥₁_elim r.ready le_prop (λ x. x.total) }
-
-    pub tree_ends : numbered accepting cs (get_or waiting 0 0) (get_or values 0 0) (length tree - 1) ≡ machine rows accepting cs sums tree
+    pub tree_ends : numbered n.accepting.now cs (get_or k.waiting.now 0 0) (get_or k.values.now 0 0) (length tree - 1) ≡ machine_in n tree
     tree_ends =
-        let full : length tree ≡ i = omega (arith, g, r.reads.within) in
+        let full : length tree ≡ i = omega (arith, g, r.within) in
         let h = rw (drop_of_length-le tree {i = i} g) at r.same in
-        rw full (rw (get_or-take w waiting 0 0 one_waits, get_or-take w values 0 0 one_waits) at
-        (sym (run_end (node_of rows cs sums) (numbered accepting cs) (stack_of s.depth opens) (stack_of s.depth begins) (take w waiting) (take w values) i) ∙ h))
+        rw full (rw (get_or-take k.waits k.waiting.now 0 0 one_waits, get_or-take k.waits k.values.now 0 0 one_waits) at
+        (sym (run_end (node_in n) (numbered n.accepting.now cs) (open_symbols k) (open_begins k) (take k.waits k.waiting.now) (take k.waits k.values.now) i) ∙ h))

@@ -1,2 +1,4 @@
 pub mod Machine
 pub mod RankReady
+pub mod Stacked
+pub mod Numbered

@@ -1,5 +1,5 @@
 -- What numbering starts from: bounds that keep every sum and product within the limit. Assumes nothing: these are definitions.
-use Rattle.std.specs.Prelude.{ℕ, ◌+◌, ◌*◌, ◌<◌, ◌≤◌, max, ◌≡◌, List, map, length, get_or, Some}
+use Rattle.std.specs.Prelude.{ℕ, ◌+◌, ◌<◌, ◌≤◌, max, ◌≡◌, List, map, length, get_or, Some}
 use Rattle.model.specs.Table.{Row}
 use Rattle.model.specs.Count.{sum, product}
 use Rattle.model.specs.Check.{count_limit}
@@ -9,7 +9,6 @@ use Rattle.rows.specs.Words.{row_no, rows_in, nexts, held_table, Held}
 use Rattle.counts.specs.Chain.{target}
 use Rattle.counts.specs.States.{held}
 use Rattle.counts.specs.Prepared.{UsedCounts}
-use Rattle.rank.specs.declared.OpenNode.{OpenNode}
 
 -- one value for each state, below the state's count
 pub record ValuesFit (cs xs vs : List ℕ) : Type 0 where
@@ -71,18 +70,3 @@ pub record TableReady (by states : ℕ) (pool words heads accepting cs sums : Li
   pub counts_room : states ≤ length cs
   pub sums_room : length words ≤ length sums
   pub counted : UsedCounts (held_table states pool words accepting) cs sums
-
--- of nodes that are open, the symbols, and how many states were waiting
-abbrev pub symbols : List OpenNode → List ℕ
-symbols opens = map (λ (n : OpenNode). n.symbol) opens
-
-abbrev pub begins : List OpenNode → List ℕ
-begins opens = map (λ (n : OpenNode). n.begin) opens
-
--- the tree has at most 4,096 entries, and each array has a place for every second one: no more nodes are open at once, nor closed and waiting
-pub record StackRoom (tree opens begins waiting values : List ℕ) : Type 0 where
-  pub short : length tree ≤ 4096
-  pub opens_room : length tree ≤ 2 * length opens
-  pub begins_room : length tree ≤ 2 * length begins
-  pub waiting_room : length tree ≤ 2 * length waiting
-  pub values_room : length tree ≤ 2 * length values

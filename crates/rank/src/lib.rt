@@ -1,26 +1,38 @@
 // Numbering a tree of a table that passes.
 #![tactic(auto)]
 
-ghost use Rattle.std.specs.Prelude.{◌≡◌, ◌<◌, ◌≤◌, length, set};
+ghost use Rattle.std.specs.Prelude.{◌≡◌, ◌<◌, ◌≤◌, length};
 ghost use Rattle.model.specs.Answers.{outcome};
 ghost use Rattle.model.specs.Tree.{WellFormed};
 ghost use Rattle.model.specs.Value.{horner};
 ghost use Rattle.model.specs.Entries.{tree_then};
-ghost use Rattle.rows.specs.Words.{rows_in};
 ghost use Rattle.counts.specs.States.{held};
-ghost use Rattle.rank.specs.Machine.{formed, node_of, numbered, machine};
-ghost use Rattle.rank.specs.RankReady.{Foldable, Formable, Closable, Summable, RankReady, StackRoom, symbols, begins};
+ghost use Rattle.rank.specs.Machine.{formed, numbered};
+ghost use Rattle.rank.specs.RankReady.{Foldable, Formable, Summable, RankReady};
+ghost use Rattle.rank.specs.Stacked.{top, top_states, top_values, with_open, with_closed};
 
 use index::RowIndex;
 use model::{Answer, Kind, Refusal};
 use rows::Rows;
-use tree::{Reading, Step};
+use tree::Step;
 
 // A node that is open: its symbol, and how many states were waiting when it was opened.
-#[derive(Clone, Copy)]
+#[derive(Clone, Copy, PartialEq, Eq, Debug)]
 struct OpenNode {
     symbol: u16,
     begin: u16,
+}
+
+// The open nodes of a tree, and the states of closed ones that wait for their parent's bar, each with its value: the first `depth` of `opens`, and the
+// first `waits` of the others. (Two lists wait: the index takes a slice of states, `fold` one of values. The lists are lent: a stack that owned its
+// arrays was tried, and kept its counts in memory: numbering took up to 1.08 times as long. Read through `&self`, a `&mut [OpenNode; 2048]` has no proof yet.)
+#[derive(Drop)]
+struct Stack<'a> {
+    opens: &'a mut [OpenNode],
+    depth: usize,
+    waiting: &'a mut [u16],
+    values: &'a mut [u64],
+    waits: usize,
 }
 
 // The children's values as one: for each child from the first, multiply by the count of its state and add its value.
@@ -29,8 +41,8 @@ fn fold(states: &[u16], values: &[u64], counts: &[u64]) -> u64
     ensures { result ≡ horner (held counts.now) 0 states.now values.now }
 {
     let mut h: u64 = 0;
-    for (i, q) in states.iter().enumerate() {
-        h = h * counts[usize::from(*q)] + values[i];
+    for (q, v) in states.iter().zip(values) {
+        h = h * counts[usize::from(*q)] + *v;
     }
     h
 }
@@ -46,28 +58,51 @@ pub struct Numbering<'a> {
     ghost ready: { ∥ RankReady index.by index.rows.pool.now index.rows.words.now index.heads.now accepting.now counts.now sums.now ∥₁ },
 }
 
-// Opens a node inside d open ones: stores its symbol, and how many states are waiting.
-fn open_node(opens: &mut [OpenNode], d: usize, symbol: u16, w: usize)
-    requires { (d < length opens.old) × (w ≤ 2048) }
-    ensures { opens.new ≡ set opens.old d (record { symbol = symbol; begin = w }) }
-{
-    opens[d] = OpenNode {
-        symbol,
-        begin: w as u16,
-    };
-}
+impl<'a> Stack<'a> {
+    // Opens a node with this symbol.
+    fn open(&mut self, symbol: u16)
+        requires { (self.old.depth < length self.old.opens.now) × (self.old.waits ≤ 2048) }
+        ensures { self.new ≡ with_open self.old symbol }
+    {
+        self.opens[self.depth] = OpenNode {
+            symbol,
+            begin: self.waits as u16,
+        };
+        self.depth += 1;
+    }
 
-// Stores the state and the value of a closed node in place of its children's, which stand from b on.
-// (Two arrays: the index takes a slice of states, `fold` one of values.)
-fn store_closed(waiting: &mut [u16], values: &mut [u64], b: usize, q: u16, v: u64)
-    requires { (b < length waiting.old) × (b < length values.old) }
-    ensures { (waiting.new ≡ set waiting.old b q) × (values.new ≡ set values.old b v) }
-{
-    waiting[b] = q;
-    values[b] = v;
+    // The symbol of the node opened last, and the states and the values of its children.
+    fn top(&self) -> (u16, &[u16], &[u64])
+        requires { (0 < self.now.depth) × (self.now.depth ≤ length self.now.opens.now) × ((top self.now).begin ≤ self.now.waits)
+            × (self.now.waits ≤ length self.now.waiting.now) × (self.now.waits ≤ length self.now.values.now) }
+        ensures { (result.0 ≡ (top self.now).symbol) × (result.1.now ≡ top_states self.now) × (result.2.now ≡ top_values self.now) }
+    {
+        let OpenNode { symbol, begin } = self.opens[self.depth - 1];
+        let b = usize::from(begin);
+        (
+            symbol,
+            &self.waiting[b..self.waits],
+            &self.values[b..self.waits],
+        )
+    }
+
+    // Closes the node opened last: its state and its value take the place of its children's.
+    fn close(&mut self, q: u16, v: u64)
+        requires { (0 < self.old.depth) × (self.old.depth ≤ length self.old.opens.now) × ((top self.old).begin < length self.old.waiting.now)
+            × ((top self.old).begin < length self.old.values.now) }
+        ensures { self.new ≡ with_closed self.old q v }
+    {
+        self.depth -= 1;
+        let b = usize::from(self.opens[self.depth].begin);
+        self.waiting[b] = q;
+        self.values[b] = v;
+        self.waits = b + 1;
+    }
 }
 
 impl<'a> Numbering<'a> {
+    ghost use Rattle.rank.specs.Numbered.{ClosableIn, node_in, machine_in};
+
     // Puts together what the check of a table leaves, the lent list and the arrays at one lifetime.
     pub fn new(
         rows: Rows<'a>,
@@ -78,19 +113,19 @@ impl<'a> Numbering<'a> {
         sums: &'a [u64],
     ) -> Numbering<'a>
         requires { RankReady by rows.pool.now rows.words.now heads.now accepting.now counts.now sums.now }
-        ensures { (result.index.rows.pool.now ≡ rows.entry.pool.now) × (result.index.rows.words.now ≡ rows.entry.words.now) × (result.index.heads.now ≡ heads.now)
-            × (result.index.by ≡ by) × (result.accepting.now ≡ accepting.now) × (result.counts.now ≡ counts.now) × (result.sums.now ≡ sums.now) }
+        ensures { (result.index.rows ≡ rows.entry) × (result.index.heads ≡ heads.entry) × (result.index.by ≡ by) × (result.accepting ≡ accepting.entry)
+            × (result.counts ≡ counts.entry) × (result.sums ≡ sums.entry) }
     {
-        let index = RowIndex { rows, heads, by };
         Numbering {
-            index,
+            index: RowIndex { rows, heads, by },
             accepting,
             counts,
             sums,
         }
     }
 
-    // The value of a tree in its state q, by its row k. An unused state counts 0, and no value is formed in it: 0 stands there.
+    // The value of a tree in its state q, by its row k. An unused state counts 0, and no value is formed in it: 0 stands there, which nothing reads as one.
+    // (No `Option`: the stack's 2,048 values would take twice their 16 KB of fixed memory.)
     fn value_in(&self, states: &[u16], values: &[u64], k: usize, q: u16) -> u64
         requires { Formable self.now.counts.now self.now.sums.now states.now values.now k q }
         ensures { result ≡ formed self.now.counts.now self.now.sums.now states.now values.now k q }
@@ -103,9 +138,8 @@ impl<'a> Numbering<'a> {
 
     // The state that a tree with this symbol reaches, whose children have these states and values, and its value there; or nothing if it reaches none.
     fn close(&self, symbol: u16, states: &[u16], values: &[u64]) -> Option<(u16, u64)>
-        requires { Closable (rows_in self.now.index.rows.pool.now self.now.index.rows.words.now) self.now.counts.now self.now.sums.now symbol states.now values.now }
-        ensures { result ≡ node_of (rows_in self.now.index.rows.pool.now self.now.index.rows.words.now) self.now.counts.now self.now.sums.now
-            symbol states.now values.now }
+        requires { ClosableIn self.now symbol states.now values.now }
+        ensures { result ≡ node_in self.now symbol states.now values.now }
     {
         let k = self.index.find(symbol, states)?;
         let q = rows::target_in(self.index.rows.words[k]);
@@ -121,73 +155,49 @@ impl<'a> Numbering<'a> {
         let mut earlier: u64 = 0;
         for a in self.accepting {
             if *a == q {
-                let number = value + earlier;
-                return Ok(number);
+                return Ok(value + earlier);
             }
             earlier += self.counts[usize::from(*a)];
         }
         Err(Refusal::new(Kind::NotAccepted, place))
     }
 
-    // The number of a tree, entry by entry: an entry opens a node, or closes one whose children's states and values are waiting. The
-    // first w of `waiting` and `values` are the states and the values of closed nodes that wait for their parent's bar.
-    fn number_tree(
-        &self,
-        tree: &[u16],
-        opens: &mut [OpenNode],
-        waiting: &mut [u16],
-        values: &mut [u64],
-    ) -> Answer
-        requires { WellFormed tree.now × StackRoom tree.now (symbols opens.old) (begins opens.old) waiting.old values.old }
-        ensures { outcome result ≡ machine (rows_in self.now.index.rows.pool.now self.now.index.rows.words.now) self.now.accepting.now
-            self.now.counts.now self.now.sums.now tree.now }
-    {
-        let mut w: usize = 0;
-        let mut s = Reading::new();
-        for (i, e) in tree.iter().enumerate() {
-            // no entry of a tree is refused
-            match s.entry(*e)? {
-                Step::Opens(t) => {
-                    open_node(opens, t.depth - 1, *e, w);
-                    s = t;
-                }
-                Step::Closes(t) => {
-                    let OpenNode { symbol, begin } = opens[t.depth];
-                    let b = usize::from(begin);
-                    let Some((q, v)) = self.close(symbol, &waiting[b..w], &values[b..w]) else {
-                        return Err(Refusal::new(Kind::NotAccepted, i));
-                    };
-                    store_closed(waiting, values, b, q, v);
-                    w = b + 1;
-                    s = t;
-                }
-            }
-        }
-        self.number_in(waiting[0], values[0], tree.len() - 1)
-    }
-
-    // The number of a tree of at most 4,096 entries: at most 2,048 nodes are open or waiting.
-    // (Its arrays are set up at its start. In line in its caller, clang 22 sets them up behind the first tests, and loses what it holds in a register.)
+    // The number of a tree of at most 4,096 entries, entry by entry: an entry opens a node, or closes one whose children wait. At most 2,048 nodes are open
+    // or waiting. (Its stack is set up at its start. In line in its caller, clang 22 sets it up behind the first tests, and loses what it holds in a register.)
     #[inline(never)]
     fn number_formed(&self, tree: &[u16]) -> Answer
         requires { WellFormed tree.now × (length tree.now ≤ 4096) }
-        ensures { outcome result ≡ machine (rows_in self.now.index.rows.pool.now self.now.index.rows.words.now) self.now.accepting.now
-            self.now.counts.now self.now.sums.now tree.now }
+        ensures { outcome result ≡ machine_in self.now tree.now }
     {
         let none = OpenNode {
             symbol: 0,
             begin: 0,
         };
-        let mut opens = [none; 2048];
-        let mut waiting = [0u16; 2048];
-        let mut values = [0u64; 2048];
-        self.number_tree(tree, &mut opens, &mut waiting, &mut values)
+        let mut stack = Stack {
+            opens: &mut [none; 2048],
+            depth: 0,
+            waiting: &mut [0; 2048],
+            values: &mut [0; 2048],
+            waits: 0,
+        };
+        for (i, e) in tree.iter().enumerate() {
+            match Step::of(*e) {
+                Step::Opens => stack.open(*e),
+                Step::Closes => {
+                    let (symbol, states, values) = stack.top();
+                    let Some((q, v)) = self.close(symbol, states, values) else {
+                        return Err(Refusal::new(Kind::NotAccepted, i));
+                    };
+                    stack.close(q, v);
+                }
+            }
+        }
+        self.number_in(stack.waiting[0], stack.values[0], tree.len() - 1)
     }
 
     // Numbers a tree.
     pub fn number(&self, tree: &[u16]) -> Answer
-        ensures { outcome result ≡ tree_then tree.now (machine (rows_in self.now.index.rows.pool.now self.now.index.rows.words.now)
-            self.now.accepting.now self.now.counts.now self.now.sums.now tree.now) }
+        ensures { outcome result ≡ tree_then tree.now (machine_in self.now tree.now) }
     {
         tree::check_tree(tree)?;
         self.number_formed(tree)

@@ -2,7 +2,6 @@
 use Rattle.std.specs.Prelude.{Result, Ok, Err, if◌then◌else◌}
 use Prim.Native.Nat.{ℕ, suc, ◌+◌, ◌-◌, ◌<◌, ◌≤◌}
 use mathlib.Core.Path.{◌≡◌, refl, sym, ap, ◌∙◌}
-use mathlib.Core.Logic.{◌⊎◌, inl, inr}
 use mathlib.Core.Bool.{Bool, true, false, ◌&&◌, ◌||◌}
 use mathlib.Core.List.{List, [], ◌∷◌}
 use native.Mathlib.Omega.{arith}
@@ -17,9 +16,9 @@ use Rattle.model.specs.Entries.{open_after, open_at, entry_ground, ends_too_soon
 use Rattle.model.proofs.Choice.{no_fault, fault_refused, none_more}
 use Rattle.model.proofs.Entries.{open_append, tree_then_back}
 use Rattle.model.specs.declared.Refusal.{Refusal}
-use Rattle.tree.specs.Reading.{fresh, not_a_tree, step_of, end_of, form_check_then, Decides}
+use Rattle.model.specs.declared.Kind.TheVariants.{TreeTooLong}
+use Rattle.tree.specs.Reading.{fresh, not_a_tree, step_of, read_on, end_of, form_check_then, Decides}
 use Rattle.tree.specs.declared.Reading.{Reading}
-use Rattle.tree.specs.declared.Step.{Step}
 use Rattle.tree.specs.declared.Step.TheVariants.{Opens, Closes}
 
 -- the state after i entries, none of which was refused
@@ -36,23 +35,24 @@ abbrev pub refusing : Reading → ℕ → Bool
 refusing s e = ltb 255 e || (eqb e 0 && eqb s.depth 0) || (ltb 0 s.place && eqb s.depth 0)
 
 -- how a step comes about
-pub opens_by : (t z : Bool) (f : Refusal) (x y n : Reading) → (if t then Err f else if z then Ok (Closes x) else Ok (Opens y)) ≡ Ok (Opens n) → (t ≡ false) × (z ≡ false) × (n ≡ y)
-opens_by true z f x y n e = cc
-opens_by false true f x y n e = cc
-opens_by false false f x y n e = (refl, refl, cc)
+taken : (t : Bool) (f : Refusal) (x y : Reading) → (if t then Err f else Ok y) ≡ Ok x → (t ≡ false) × (x ≡ y)
+taken true f x y e = cc
+taken false f x y e = (refl, cc)
 
-pub closes_by : (t z : Bool) (f : Refusal) (x y n : Reading) → (if t then Err f else if z then Ok (Closes x) else Ok (Opens y)) ≡ Ok (Closes n) → (t ≡ false) × (z ≡ true) × (n ≡ x)
-closes_by true z f x y n e = cc
-closes_by false true f x y n e = (refl, refl, cc)
-closes_by false false f x y n e = cc
+refuses_by : (t : Bool) (f g : Refusal) (y : Reading) → (if t then Err f else Ok y) ≡ Err g → (t ≡ true) × (g ≡ f)
+refuses_by true f g y e = (refl, cc)
+refuses_by false f g y e = cc
 
-refuses_by : (t z : Bool) (f : Refusal) (x y : Reading) (g : Refusal) → (if t then Err f else if z then Ok (Closes x) else Ok (Opens y)) ≡ Err g → (t ≡ true) × (g ≡ f)
-refuses_by true z f x y g e = (refl, cc)
-refuses_by false true f x y g e = cc
-refuses_by false false f x y g e = cc
+pub opens_so : (z : Bool) → Opens ≡ (if z then Closes else Opens) → z ≡ false
+opens_so true e = cc
+opens_so false e = refl
+
+pub closes_so : (z : Bool) → Closes ≡ (if z then Closes else Opens) → z ≡ true
+closes_so true e = refl
+closes_so false e = cc
 
 -- nodes open after one entry more
-open_next : (tree : List ℕ) (i : ℕ) → i < length tree → open_at tree (i + 1) ≡ (if eqb (get_or tree i 0) 0 then open_at tree i - 1 else suc (open_at tree i))
+pub open_next : (tree : List ℕ) (i : ℕ) → i < length tree → open_at tree (i + 1) ≡ (if eqb (get_or tree i 0) 0 then open_at tree i - 1 else suc (open_at tree i))
 unfolding open_after
 open_next tree i l = rw (add-one i, take-suc tree i 0 l) (open_append 0 (take i tree) (get_or tree i 0 ∷ []))
 
@@ -85,28 +85,19 @@ module _ {tree : List ℕ} {s : Reading} {i : ℕ} (r : Read tree s i) (l : i < 
       low true = omega (arith, r.shallow)
       low false = omega (arith, r.shallow)
 
-  pub opened : (n : Reading) → step_of s (get_or tree i 0) ≡ Ok (Opens n) → Read tree n (i + 1)
+  pub went_on : (n : Reading) → step_of s (get_or tree i 0) ≡ Ok n → Read tree n (i + 1)
   unfolding step_of
-  opened n e =
-      let t = opens_by (refusing s (get_or tree i 0)) (eqb (get_or tree i 0) 0) _ _ _ n e in
-      went n false t.0 t.1 (ap (λ (x : Reading). x.depth) t.2) (ap (λ (x : Reading). x.place) t.2)
-
-  pub shut : (n : Reading) → step_of s (get_or tree i 0) ≡ Ok (Closes n) → Read tree n (i + 1)
-  unfolding step_of
-  shut n e =
-      let t = closes_by (refusing s (get_or tree i 0)) (eqb (get_or tree i 0) 0) _ _ _ n e in
-      went n true t.0 t.1 (ap (λ (x : Reading). x.depth) t.2) (ap (λ (x : Reading). x.place) t.2)
-
-  -- the entry opens a node or closes one
-  pub either : (n : Reading) (x : Step) → step_of s (get_or tree i 0) ≡ Ok x → (x ≡ Opens n) ⊎ (x ≡ Closes n) → Read tree n (i + 1)
-  either n x e (inl o) = opened n (e ∙ ap Ok o)
-  either n x e (inr c) = shut n (e ∙ ap Ok c)
+  went_on n e = let t = taken (refusing s (get_or tree i 0)) _ n _ e in rw t.1 (by (eqb (get_or tree i 0) 0) t.0 refl)
+    where
+      by : (z : Bool) → refusing s (get_or tree i 0) ≡ false → eqb (get_or tree i 0) 0 ≡ z → Read tree (read_on s (if z then Closes else Opens)) (i + 1)
+      by true t z = went _ true t z refl refl
+      by false t z = went _ false t z refl refl
 
   -- the entry is refused: it is the place of 13
   pub refused_here : (f : Refusal) → step_of s (get_or tree i 0) ≡ Err f → (o : Outcome) → refused_by f ≡ tree_then tree o
   unfolding step_of tree_then form_then
   refused_here f e o =
-      let t = refuses_by (refusing s (get_or tree i 0)) (eqb (get_or tree i 0) 0) _ _ _ f e in
+      let t = refuses_by (refusing s (get_or tree i 0)) _ f _ e in
       let g : entry_ground tree i ≡ 13 = rw t.0 at ground_is in
       let long : ltb 4096 (length tree) ≡ false = le-ltb 4096 (length tree) r.few in
       ap refused_by t.1 ∙ ap (refused 13) r.place_is ∙ rw long (fault_refused (length tree) i 13 (entry_ground tree) _ l r.sound g (omega arith))
@@ -146,9 +137,9 @@ module _ {tree : List ℕ} {s : Reading} {i : ℕ} (r : Read tree s i) (ge : len
       told false o = refl
 
 -- more than 4,096 entries
-pub too_long : (tree : List ℕ) → 4096 < length tree → (o : Outcome) → refused 12 0 ≡ tree_then tree o
+pub too_long : (tree : List ℕ) (f : Refusal) → 4096 < length tree → f ≡ record { place = 0; kind = TreeTooLong } → Decides tree (Err f)
 unfolding tree_then
-too_long tree l o = rw (lt-ltb 4096 (length tree) l)
+too_long tree f l e = record { decided = λ o. rw (lt-ltb 4096 (length tree) l) (ap refused_by e) }
 
 -- what the answer says: 12 or 13, or a tree of at most 4,096 entries
 module _ {tree : List ℕ} {f : Result (Unit {0}) Refusal} (d : Decides tree f) where

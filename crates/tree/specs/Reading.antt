@@ -15,13 +15,21 @@ fresh = record { depth = 0; place = 0 }
 abbrev pub not_a_tree : ℕ → Refusal
 not_a_tree place = record { place = place; kind = NotATree }
 
+-- a bar closes a node, a symbol opens one
+abbrev pub step : ℕ → Step
+step e = if eqb e 0 then Closes else Opens
+
+-- the reading after such an entry
+abbrev pub read_on : Reading → Step → Reading
+read_on r Opens = record { depth = r.depth + 1; place = r.place + 1 }
+read_on r Closes = record { depth = r.depth - 1; place = r.place + 1 }
+
 -- "each entry read opens a node, closes one, or is refused": it is refused if it "is above 255, is a bar with no node open, or follows the
 -- root's bar"
-unfoldable pub step_of : Reading → ℕ → Result Step Refusal
+unfoldable pub step_of : Reading → ℕ → Result Reading Refusal
 step_of r e =
     if ltb 255 e || (eqb e 0 && eqb r.depth 0) || (ltb 0 r.place && eqb r.depth 0) then Err (not_a_tree r.place) else
-    if eqb e 0 then Ok (Closes (record { depth = r.depth - 1; place = r.place + 1 })) else
-    Ok (Opens (record { depth = r.depth + 1; place = r.place + 1 }))
+    Ok (read_on r (step e))
 
 -- "for a list that ends too soon (an empty one too) the place is its length"
 unfoldable pub end_of : Reading → Result (Unit {0}) Refusal

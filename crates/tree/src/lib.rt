@@ -2,7 +2,7 @@
 #![tactic(auto)]
 
 ghost use Rattle.std.specs.Prelude.{◌≡◌, ◌<◌, ◌≤◌};
-ghost use Rattle.tree.specs.Reading.{fresh, step_of, end_of, Decides};
+ghost use Rattle.tree.specs.Reading.{fresh, step, step_of, end_of, Decides};
 
 use model::{Kind, Refusal};
 
@@ -13,11 +13,19 @@ pub struct Reading {
     pub place: usize,
 }
 
-// The entry opens a node or closes one.
+// What an entry that is read does: a symbol opens a node, a bar closes one.
 #[derive(Clone, Copy, PartialEq, Eq, Debug)]
 pub enum Step {
-    Opens(Reading),
-    Closes(Reading),
+    Opens,
+    Closes,
+}
+
+impl Step {
+    pub fn of(e: u16) -> Self
+        ensures { result ≡ step e }
+    {
+        if e == 0 { Step::Closes } else { Step::Opens }
+    }
 }
 
 impl Reading {
@@ -27,28 +35,25 @@ impl Reading {
         Reading { depth: 0, place: 0 }
     }
 
-    // Reads one entry, or refuses it.
+    // The reading after one entry more, or the entry's refusal.
     #[tactic(auto, unfolding(crate::specs::Reading::step_of))]
-    pub fn entry(self, e: u16) -> Result<Step, Refusal>
+    pub fn entry(self, e: u16) -> Result<Self, Refusal>
         requires { (self.depth ≤ self.place) × (self.place < 4096) }
         ensures { result ≡ step_of self e }
     {
-        let Reading { depth, place } = self;
         // with no node open, nothing was read or the root's bar was
-        if 255 < e || depth == 0 && (0 < place || e == 0) {
-            return Err(Refusal::new(Kind::NotATree, place));
+        if 255 < e || self.depth == 0 && (0 < self.place || e == 0) {
+            return Err(Refusal::new(Kind::NotATree, self.place));
         }
-        let place = place + 1;
-        if e == 0 {
-            return Ok(Step::Closes(Reading {
-                depth: depth - 1,
-                place,
-            }));
-        }
-        Ok(Step::Opens(Reading {
-            depth: depth + 1,
-            place,
-        }))
+        // one value in either case, and no branch that goes on: which entries are bars cannot be foreseen
+        let depth = match Step::of(e) {
+            Step::Opens => self.depth + 1,
+            Step::Closes => self.depth - 1,
+        };
+        Ok(Reading {
+            depth,
+            place: self.place + 1,
+        })
     }
 
     // After the last entry: the list is a tree, or ends too soon.
@@ -65,6 +70,7 @@ impl Reading {
 }
 
 // Whether the list is a tree of at most 4,096 entries, or refused by 12 or 13.
+#[tactic(auto, using(crate::proofs::Laws::begins, crate::proofs::Laws::too_long, crate::proofs::Laws::ended))]
 pub fn check_tree(tree: &[u16]) -> Result<(), Refusal>
     ensures { Decides tree.now result }
 {
@@ -73,8 +79,7 @@ pub fn check_tree(tree: &[u16]) -> Result<(), Refusal>
     }
     let mut s = Reading::new();
     for e in tree {
-        let (Step::Opens(t) | Step::Closes(t)) = s.entry(*e)?;
-        s = t;
+        s = s.entry(*e)?;
     }
     s.end()
 }

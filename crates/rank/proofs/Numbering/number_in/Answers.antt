@@ -7,8 +7,8 @@ use Rattle.rank.proofs.Numbering.number_in.Goals as goal
 pub loop-a-init : goal.loop-a-init
 loop-a-init c = sum_begins _ _ _
 
-pub overflow_add-number : goal.overflow_add-number
-overflow_add-number c = omega (arith, number_fits c.loop-a.invariant c.loop-a-test.true c.requires c.if-a-q.true)
+pub overflow_add-result : goal.overflow_add-result
+overflow_add-result c = omega (arith, number_fits c.loop-a.invariant c.loop-a-test.true c.requires c.if-a-q.true)
 
 pub returns-then-a-q : goal.returns-then-a-q
 returns-then-a-q c = listed_here c.loop-a.invariant c.loop-a-test.true c.if-a-q.true _ _
