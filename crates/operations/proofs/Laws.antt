@@ -96,9 +96,6 @@ module _ {prepare : Bool} {states : ℕ} {rows accepting words heads first count
     passes : Passes states rows accepting t
     passes = sym a.answer ∙ ap told e
 
-    pub check_passed : Answered Check states rows accepting old old (Ok t)
-    check_passed = record { answer = sym passes; list = refl }
-
   -- numbering and writing go on from what the check leaves
   module _ (t n by : ℕ) (e : o ≡ Ok (record { total = t; rows = record { count = n; by = by } })) where
     p : PreparedRows prepare by states rows accepting words heads first counts sums n

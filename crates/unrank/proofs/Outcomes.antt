@@ -1,6 +1,6 @@
 -- What the parts of writing answer, put together. Assumes nothing.
 use Prim.Native.Nat.{ℕ, ◌<◌, ◌≤◌}
-use mathlib.Core.Path.{◌≡◌, refl, sym, ap, ◌∙◌}
+use mathlib.Core.Path.{◌≡◌, sym, ap, ◌∙◌}
 use mathlib.Core.List.{List, ◌++◌}
 use native.Mathlib.Omega.{arith}
 use lib.ListN.{length, drop}
@@ -12,9 +12,7 @@ use Rattle.std.specs.Prelude.{Result}
 use Rattle.model.specs.declared.Refusal.{Refusal}
 use Rattle.unrank.specs.declared.Spot.{Spot}
 use Rattle.unrank.specs.Trees.{value_entries, Wrote, spot_of}
-use Rattle.unrank.specs.Written.{number_entries, WroteNumber, write_below, WroteBelow}
-
--- ---- a number below the total
+use Rattle.unrank.specs.Written.{number_entries, WroteNumber}
 
 abbrev gives : (written old : List ℕ) → Outcome
 gives written old = tree_fits (length old) (length written)
@@ -47,18 +45,3 @@ module _ (rows : List Row) (accepting counts : List ℕ) (number : ℕ) (s : Spo
             ∙ ap (λ (l : List ℕ). l ++ drop (length l) old) spot_entries
             ∙ sym (ap (λ (o : Outcome). lent_after o (number_entries rows accepting counts number) old) f);
       }
-
--- ---- any number
-
--- the answer decides, and the list then holds what it says
-told_so : (rows : List Row) (accepting counts : List ℕ) (total number : ℕ) (old new : List ℕ) (r : Result ℕ Refusal) (o : Outcome) → outcome r ≡ o
-    → write_below total number (gives (number_entries rows accepting counts number) old) ≡ o → new ≡ lent_after o (number_entries rows accepting counts number) old
-    → WroteBelow rows accepting counts total number old new r
-told_so rows accepting counts total number old new r o a e l = record { answer = a ∙ sym e; list = l ∙ ap (λ (o : Outcome). lent_after o (number_entries rows accepting counts number) old) (sym e) }
-
-module _ (rows : List Row) (accepting counts : List ℕ) (total number : ℕ) (old : List ℕ) (r : Result ℕ Refusal) where
-  pub write_above : total ≤ number → outcome r ≡ refused 15 0 → WroteBelow rows accepting counts total number old old r
-  write_above l a = told_so rows accepting counts total number old old r (refused 15 0) a (rw (le-ltb number total l)) refl
-
-  pub write_below_lem : (new : List ℕ) → number < total → WroteNumber rows accepting counts number old new r → WroteBelow rows accepting counts total number old new r
-  write_below_lem new l w = told_so rows accepting counts total number old new r (gives (number_entries rows accepting counts number) old) w.answer (rw (lt-ltb number total l)) w.list

@@ -73,9 +73,6 @@ module _ {pool words first counts sums : List ℕ} {q value : ℕ} (x : ValueRea
       link_mine : target rows (p - 1) ≡ q
       link_mine = rw (leads_row p n pos) at (l.mine pos)
 
-      link_from : m ≤ p - 1
-      link_from = rw (leads_row p n pos) at l.from
-
       link_passed : before rows counts q (p - 1) ≡ before rows counts q m
       link_passed = rw (leads_row p n pos) at passed
 

@@ -3,14 +3,14 @@ use Prim.Native.Nat.{ℕ, ◌+◌, ◌-◌, ◌<◌, ◌≤◌}
 use mathlib.Core.Path.{◌≡◌, refl, sym, ap, ◌∙◌}
 use mathlib.Core.List.{List, [], ◌∷◌, ◌++◌, append_assoc, append-nil}
 use native.Mathlib.Omega.{arith}
-use lib.ListN.{length, get_or, take, drop, set, drop_of_length-le, length-append, length-take, length-drop}
+use lib.ListN.{length, take, drop, set, drop_of_length-le, length-append, length-take, length-drop}
 use lib.Seq.{take_all, drop-drop, drop-set-lt}
 use Rattle.model.specs.Table.{Row}
 use Rattle.model.proofs.Writing.{Writing, rest_fits, piece_fits, piece_written, writing_last, one_set}
 use Rattle.rows.specs.Words.{symbol_in, args_in, rows_in}
 use Rattle.unrank.specs.declared.Entered.{Entered}
-use Rattle.unrank.specs.declared.Child.{Child}
-use Rattle.unrank.specs.Trees.{Enters, child_of, value_entries, Wrote}
+use Rattle.unrank.specs.declared.Spot.{Spot}
+use Rattle.unrank.specs.Trees.{Enters, TakesChild, value_entries, Wrote}
 use Rattle.unrank.proofs.Trees.{kids_in, entries_are}
 use Rattle.unrank.proofs.ValueReady.{ValueReady}
 use Rattle.unrank.proofs.Children.{Going, going_begins, going_next, kids_turn, kids_end}
@@ -53,10 +53,10 @@ module _ {old new all : List ℕ} {at x : ℕ} (w : Writing old new all (x ∷ [
       writing_last (piece_written (x ∷ []) [] w (set new at x) (at + 1) (one_set new at x last_fits) refl)
       ∙ ap (λ (i : ℕ). all ++ drop i old) (sym last_place)
 
--- the children before k are written
-pub record WritingTree (rows : List Row) (counts : List ℕ) (q value : ℕ) (old args new : List ℕ) (w h at k : ℕ) : Type 0 where
-  pub going : Going counts q args w h k
-  pub writes : Writing old new (value_entries rows counts q value) (kids_in rows counts q (drop k args) w h ++ 0 ∷ []) at
+-- the earlier children are written
+pub record WritingTree (rows : List Row) (counts : List ℕ) (q value : ℕ) (old new states : List ℕ) (w h at : ℕ) : Type 0 where
+  pub going : Going counts q states w h
+  pub writes : Writing old new (value_entries rows counts q value) (kids_in rows counts q states w h ++ 0 ∷ []) at
 
 -- a tree has an entry
 pub some_entry : {pool words counts : List ℕ} {q value : ℕ} {e : Entered} → Enters pool words counts q value e → 0 < length (value_entries (rows_in pool words) counts q value)
@@ -67,34 +67,33 @@ module _ {pool words first counts sums : List ℕ} {q value : ℕ} (x : ValueRea
   rows = rows_in pool words
 
   pub tree_begins : {e : Entered} → Enters pool words counts q value e → (old : List ℕ) → length (value_entries rows counts q value) ≤ length old
-      → WritingTree rows counts q value (set old 0 (symbol_in e.word)) (args_in pool e.word) (set old 0 (symbol_in e.word)) e.weight e.rest 1 0
+      → WritingTree rows counts q value (set old 0 (symbol_in e.word)) (set old 0 (symbol_in e.word)) (args_in pool e.word) e.weight e.rest 1
   tree_begins {e} y old l = record {
     going = going_begins x y;
     writes = symbol_first old (symbol_in e.word) (value_entries rows counts q value) (kids_in rows counts q (args_in pool e.word) e.weight e.rest ++ 0 ∷ []) (entries_are y) l;
   }
 
-  module _ {old args new : List ℕ} {w h at k : ℕ} (t : WritingTree rows counts q value old args new w h at k) where
-    module _ (lt : k < length args) (a : ℕ) (at_k : a ≡ get_or args k 0) (c : Child) (e : c ≡ child_of counts a w h) where
+  module _ {old new states : List ℕ} {w h at : ℕ} (t : WritingTree rows counts q value old new states w h at) where
+    module _ {states' : List ℕ} {w' h' : ℕ} {c : Spot} (k : TakesChild counts states w h c states' w' h') where
       abbrev piece : List ℕ
       piece = value_entries rows counts c.state c.value
 
       abbrev others : List ℕ
-      others = kids_in rows counts q (drop (k + 1) args) c.weight c.rest ++ 0 ∷ []
+      others = kids_in rows counts q states' w' h' ++ 0 ∷ []
 
       turns : Writing old new (value_entries rows counts q value) (piece ++ others) at
-      turns =
-          rw (sym (append_assoc piece (kids_in rows counts q (drop (k + 1) args) c.weight c.rest) (0 ∷ []))) (rw (kids_turn x t.going lt a at_k c e) at t.writes)
+      turns = rw (sym (append_assoc piece (kids_in rows counts q states' w' h') (0 ∷ []))) (rw (kids_turn x t.going k) at t.writes)
 
       pub child_room : length piece ≤ length (take (length new - at) (drop at new))
       child_room = part_room piece others turns
 
       pub tree_next : (ys : List ℕ) (n : ℕ) → Wrote rows counts c.state c.value (take (length new - at) (drop at new)) ys n
-          → WritingTree rows counts q value old args (take at new ++ (ys ++ drop (length new - at) (drop at new))) c.weight c.rest (at + n) (k + 1)
-      tree_next ys n o = record { going = going_next x t.going lt a at_k c e; writes = part_put piece others turns ys n o.many o.holds }
+          → WritingTree rows counts q value old (take at new ++ (ys ++ drop (length new - at) (drop at new))) states' w' h' (at + n)
+      tree_next ys n o = record { going = going_next x t.going k; writes = part_put piece others turns ys n o.many o.holds }
 
-    module _ (ge : length args ≤ k) where
+    module _ (none : states ≡ []) where
       bar_left : Writing old new (value_entries rows counts q value) (0 ∷ []) at
-      bar_left = rw (kids_end rows counts q args w h k ge) at t.writes
+      bar_left = rw (kids_end rows counts q states w h none) at t.writes
 
       -- the first entry was written before the children: the entries after the tree are still those of the list as lent
       pub tree_ends : (out : List ℕ) (s : ℕ) → old ≡ set out 0 s → Wrote rows counts q value out (set new at 0) (at + 1)

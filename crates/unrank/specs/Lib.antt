@@ -1,3 +1,4 @@
 pub mod UnrankReady
 pub mod Trees
+pub mod Walk
 pub mod Written

@@ -1,5 +1,5 @@
 -- The row in which a value falls, its children, and the entries of its tree. Assumes nothing: these are definitions.
-use Rattle.std.specs.Prelude.{ℕ, suc, ◌/◌, ◌%◌, ◌<◌, ◌≡◌, List, map, ◌++◌, length, get_or, drop}
+use Rattle.std.specs.Prelude.{ℕ, suc, ◌/◌, ◌%◌, ◌<◌, ◌≡◌, List, ◌∷◌, map, ◌++◌, length, get_or, drop}
 use Rattle.model.specs.Table.{Row}
 use Rattle.rows.specs.Words.{row_no, rows_in}
 use Rattle.model.specs.Tree.{serial}
@@ -8,7 +8,6 @@ use Rattle.model.specs.Value.{find_by, tree_in}
 use Rattle.counts.specs.Chain.{target}
 use Rattle.counts.specs.States.{held}
 use Rattle.unrank.specs.declared.Entered.{Entered}
-use Rattle.unrank.specs.declared.Child.{Child}
 use Rattle.unrank.specs.declared.Spot.{Spot}
 
 -- the row that is found by the sums, of the state's rows the one in which the value falls
@@ -21,17 +20,18 @@ pub record Enters (pool words counts : List ℕ) (q value : ℕ) (e : Entered) :
   pub weighs : e.weight ≡ product (map (held counts) (row_no (rows_in pool words) row).args)
   pub falls : e.rest < e.weight
 
--- a child's state a counts more than 0, and so do the children after it
-pub record Shared (counts : List ℕ) (a w : ℕ) : Type 0 where
-  pub state : a < length counts
-  pub some : 0 < held counts a
-  pub others : 0 < w / held counts a
+-- the children that are left have states with places, whose counts have the product w, and h is below it
+pub record Shared (counts states : List ℕ) (w h : ℕ) : Type 0 where
+  pub placed : (k : ℕ) → k < length states → get_or states k 0 < length counts
+  pub weighs : w ≡ product (map (held counts) states)
+  pub falls : h < w
 
 -- "for each child divide w by the child's count; the child's value is h divided by w, rounded down, and h becomes the remainder"
-abbrev pub child_of : (counts : List ℕ) (a w h : ℕ) → Child
-child_of counts a w h =
-    let w' = w / held counts a in
-    record { state = a; value = h / w'; weight = w'; rest = h % w' }
+pub record TakesChild (counts states : List ℕ) (w h : ℕ) (child : Spot) (states' : List ℕ) (w' h' : ℕ) : Type 0 where
+  pub first : states ≡ child.state ∷ states'
+  pub divides : w' ≡ w / held counts child.state
+  pub value : child.value ≡ h / w'
+  pub remains : h' ≡ h % w'
 
 -- the entries of the tree of a value in a state
 unfoldable pub value_entries : (rows : List Row) (counts : List ℕ) (q value : ℕ) → List ℕ

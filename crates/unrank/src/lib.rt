@@ -2,10 +2,12 @@
 #![tactic(auto)]
 
 ghost use Rattle.std.specs.Prelude.{◌≡◌, ◌<◌, ◌≤◌, length};
+ghost use Rattle.std.proofs.Props.{props};
+ghost use Rattle.rows.specs.Words.{Inside, args_in};
 ghost use Rattle.rows.specs.Listed.{all_rows};
 ghost use Rattle.counts.specs.States.{held};
 ghost use Rattle.unrank.specs.UnrankReady.{WriteReady};
-ghost use Rattle.unrank.specs.Trees.{Enters, Shared, child_of, value_entries, Wrote, spot_of};
+ghost use Rattle.unrank.specs.Trees.{Enters, Shared, value_entries, Wrote, spot_of};
 ghost use Rattle.unrank.specs.Written.{WroteNumber, WroteBelow};
 
 use counts::ByTarget;
@@ -20,20 +22,43 @@ struct Entered {
     rest: u64,
 }
 
-// A child: its state and its value; the product of the counts of the children after it, and what is left of the value for them.
-#[derive(Clone, Copy)]
-struct Child {
-    state: usize,
-    value: u64,
-    weight: u64,
-    rest: u64,
-}
-
 // A state and a value in it.
 #[derive(Clone, Copy)]
 struct Spot {
     state: usize,
     value: u64,
+}
+
+// The children of a row: what each state counts; the children's states, the product of what these count, and what is left of the value for them.
+#[derive(Clone, Copy)]
+struct ChildrenOfRow<'a> {
+    counts: &'a [u64],
+    states: &'a [u16],
+    weight: u64,
+    rest: u64,
+    ghost shared: { Shared counts.now states.now weight rest } by { Prim.hlevel props },
+}
+
+// Each child in its state with its value: for each divide the product by the child's count; its value is what is left divided by that.
+impl Iterator for ChildrenOfRow<'_> {
+    ghost use Rattle.unrank.specs.Walk.{children_left, GivesChild};
+
+    type Item = Spot;
+
+    ghost next_gives = { GivesChild };
+
+    ghost remaining = { children_left };
+
+    fn next(&mut self) -> Option<Spot> {
+        let (first, later) = self.states.split_first()?;
+        let state = usize::from(*first);
+        let weight = self.weight / self.counts[state];
+        let value = self.rest / weight;
+        self.states = later;
+        self.weight = weight;
+        self.rest %= weight;
+        Some(Spot { state, value })
+    }
 }
 
 // A table that passes, as its check leaves it for writing: its rows chained by target, its accepting list, what each state counts, for each row what the
@@ -103,17 +128,19 @@ impl<'a> TreeWriter<'a> {
         }
     }
 
-    // The child in state a, where w is the product of its count and those of the children after it, and h is what is left of the value for them.
-    fn child_at(&self, a: usize, w: u64, h: u64) -> Child
-        requires { Shared self.now.counts.now a w }
-        ensures { result ≡ child_of self.now.counts.now a w h }
+    // The children of a row that is entered.
+    fn children_of(&self, row: Entered) -> ChildrenOfRow<'a>
+        requires inside { Inside self.now.by_target.rows.pool.now row.word }
+        requires shared { Shared self.now.counts.now (args_in self.now.by_target.rows.pool.now row.word) row.weight row.rest }
+        ensures counts { result.counts.now ≡ self.now.counts.now }
+        ensures states { result.states.now ≡ args_in self.now.by_target.rows.pool.now row.word }
+        ensures parts { (result.weight ≡ row.weight) × (result.rest ≡ row.rest) }
     {
-        let weight = w / self.counts[a];
-        Child {
-            state: a,
-            value: h / weight,
-            weight,
-            rest: h % weight,
+        ChildrenOfRow {
+            counts: self.counts,
+            states: rows::args_in(self.by_target.rows.pool, row.word),
+            weight: row.weight,
+            rest: row.rest,
         }
     }
 
@@ -123,34 +150,23 @@ impl<'a> TreeWriter<'a> {
         ensures { result ≡ length (value_entries (all_rows self.now.by_target.rows) self.now.counts.now q value) }
     {
         let row = self.find_row(q, value);
-        let mut w = row.weight;
-        let mut h = row.rest;
         let mut n: usize = 2;
-        for a in rows::args_in(self.by_target.rows.pool, row.word) {
-            let child = self.child_at(usize::from(*a), w, h);
-            w = child.weight;
-            h = child.rest;
+        for child in self.children_of(row) {
             n += self.tree_length(child.state, child.value);
         }
         n
     }
 
     // Writes the tree of a value in state q at the front of `out`, and gives how many entries it has.
-    // (The walk is `tree_length`'s. As one function it would need a trait for where the entries go and two types with it: more than the loop it saves.)
     fn write_tree(&self, q: usize, value: u64, out: &mut [u16]) -> usize
         requires value_below { value < held self.now.counts.now q }
         requires value_in_bounds { length (value_entries (all_rows self.now.by_target.rows) self.now.counts.now q value) ≤ length out.old }
         ensures { Wrote (all_rows self.now.by_target.rows) self.now.counts.now q value out.old out.new result }
     {
         let row = self.find_row(q, value);
-        let mut w = row.weight;
-        let mut h = row.rest;
         out[0] = rows::symbol_in(row.word);
         let mut at: usize = 1;
-        for a in rows::args_in(self.by_target.rows.pool, row.word) {
-            let child = self.child_at(usize::from(*a), w, h);
-            w = child.weight;
-            h = child.rest;
+        for child in self.children_of(row) {
             at += self.write_tree(child.state, child.value, &mut out[at..]);
         }
         out[at] = 0;
