@@ -3,7 +3,7 @@
 
 ghost use Rattle.std.specs.Prelude.{◌≡◌, ◌+◌, ◌<◌, ◌≤◌, length};
 ghost use Rattle.model.specs.Names.{lower};
-ghost use Rattle.words.specs.Words.{lanes, words_alike, inner_ahead, foreign, Word, WordPut};
+ghost use Rattle.words.specs.Words.{lanes, words_alike, inner_ahead, foreign, packed, Word, WordPut};
 
 // Each of the eight bytes, a capital letter as the small one.
 fn fold_word(x: u64) -> u64
@@ -46,27 +46,23 @@ pub fn foreign_bytes(x: u64) -> u64
     (!(letter | digit | hyphen | underscore | ten) | x) & 0x8080_8080_8080_8080
 }
 
-// N bytes as one number, the first byte the lowest: one load (bench/README.md says how that was seen).
+// At most eight bytes as one number, the first byte the lowest.
+fn number_of(bytes: &[u8]) -> u64
+    requires { length bytes.now ≤ 8 }
+    ensures { result ≡ packed bytes.now }
+{
+    let mut word = [0u8; 8];
+    word[..bytes.len()].copy_from_slice(bytes);
+    u64::from_le_bytes(word)
+}
+
+// N bytes as one number: one load (bench/README.md says how that was seen).
 pub fn word_at<const N: usize>(bytes: &[u8], at: usize) -> u64
     requires at_in_bounds { at + N ≤ length bytes.now }
     requires n_le_8 { N ≤ 8 }
     ensures { Word N at bytes.now result }
 {
-    let mut word = [0u8; 8];
-    word[..N].copy_from_slice(&bytes[at..at + N]);
-    u64::from_le_bytes(word)
-}
-
-// What is left of the bytes, fewer than eight, as one number.
-fn rest_at(bytes: &[u8], at: usize) -> u64
-    requires { (at ≤ length bytes.now) × (length bytes.now < at + 8) }
-    ensures { Word 8 at bytes.now result }
-{
-    let mut w = 0;
-    for b in bytes[at..].iter().rev() {
-        w = w * 256 + u64::from(*b);
-    }
-    w
+    number_of(&bytes[at..at + N])
 }
 
 // Eight bytes as one number, or what is left of them.
@@ -77,7 +73,7 @@ pub fn word_or_rest(bytes: &[u8], at: usize) -> u64
     if 8 <= bytes.len() - at {
         word_at::<8>(bytes, at)
     } else {
-        rest_at(bytes, at)
+        number_of(&bytes[at..])
     }
 }
 
