@@ -3,16 +3,29 @@
 
 ghost use Rattle.std.specs.Prelude.{◌≡◌, ◌+◌, ◌<◌, ◌≤◌, length};
 ghost use Rattle.model.specs.Names.{lower};
-ghost use Rattle.words.specs.Words.{lanes, words_alike, inner_ahead, foreign, packed, Word, WordPut};
+ghost use Rattle.words.specs.Words.{lanes, marked, words_alike, inner_ahead, foreign, packed, Word, WordPut};
+
+// 1 in each of the eight bytes, and the top bit of each.
+const ONES: u64 = 0x0101_0101_0101_0101;
+
+const TOP_BITS: u64 = 0x8080_8080_8080_8080;
+
+// 128 in the place of each byte from FIRST to LAST, both below 128, and 0 in the others.
+fn bytes_between<const FIRST: u8, const LAST: u8>(x: u64) -> u64
+    requires { (FIRST ≤ LAST) × (LAST < 128) }
+    ensures { result ≡ lanes (marked FIRST LAST) 8 x }
+{
+    let low = x & 0x7f7f_7f7f_7f7f_7f7f;
+    let reached = low + u64::from(128 - FIRST) * ONES;
+    let passed = low + u64::from(127 - LAST) * ONES;
+    (reached ^ passed) & !x & TOP_BITS
+}
 
 // Each of the eight bytes, a capital letter as the small one.
 fn fold_word(x: u64) -> u64
     ensures { result ≡ lanes lower 8 x }
 {
-    let low = x & 0x7f7f_7f7f_7f7f_7f7f;
-    let letter = (low + 0x3f3f_3f3f_3f3f_3f3f) ^ (low + 0x2525_2525_2525_2525);
-    let upper = letter & !x & 0x8080_8080_8080_8080;
-    x + upper / 4
+    x + bytes_between::<b'A', b'Z'>(x) / 4
 }
 
 // Whether two words are alike: in each of the eight places the bytes are the same, or one letter in its two cases.
@@ -26,9 +39,7 @@ pub fn words_alike(x: u64, y: u64) -> bool
 pub fn inner_ahead(x: u64) -> usize
     ensures { result ≡ inner_ahead 8 x }
 {
-    let low = x & 0x7f7f_7f7f_7f7f_7f7f;
-    let outer = (!(low + 0x5353_5353_5353_5353) | (low + 0x0505_0505_0505_0505) | x)
-        & 0x8080_8080_8080_8080;
+    let outer = !bytes_between::<b'-', b'z'>(x) & TOP_BITS;
     (outer.trailing_zeros() / 8) as usize
 }
 
@@ -36,14 +47,12 @@ pub fn inner_ahead(x: u64) -> usize
 pub fn foreign_bytes(x: u64) -> u64
     ensures { result ≡ lanes foreign 8 x }
 {
-    let low = x & 0x7f7f_7f7f_7f7f_7f7f;
-    let small = low | 0x2020_2020_2020_2020;
-    let letter = (small + 0x1f1f_1f1f_1f1f_1f1f) ^ (small + 0x0505_0505_0505_0505);
-    let digit = (low + 0x5050_5050_5050_5050) ^ (low + 0x4646_4646_4646_4646);
-    let hyphen = (low + 0x5353_5353_5353_5353) ^ (low + 0x5252_5252_5252_5252);
-    let underscore = (low + 0x2121_2121_2121_2121) ^ (low + 0x2020_2020_2020_2020);
-    let ten = (low + 0x7676_7676_7676_7676) ^ (low + 0x7575_7575_7575_7575);
-    (!(letter | digit | hyphen | underscore | ten) | x) & 0x8080_8080_8080_8080
+    let letters = bytes_between::<b'a', b'z'>(x | 0x20 * ONES);
+    let digits = bytes_between::<b'0', b'9'>(x);
+    let hyphens = bytes_between::<b'-', b'-'>(x);
+    let underscores = bytes_between::<b'_', b'_'>(x);
+    let tens = bytes_between::<b'\n', b'\n'>(x);
+    !(letters | digits | hyphens | underscores | tens) & TOP_BITS
 }
 
 // At most eight bytes as one number, the first byte the lowest.
