@@ -141,14 +141,9 @@ module _ (x : ℕ) (h : x < 2 ^ 64) where
   low_is = ap₂ bit_and (sym id_is) (sym (same_byte 127 x)) ∙ and (λ b. b) (λ b. 127) (λ b l. l) (λ b l. omega arith) 8 x
 
   -- a range
-  pub range_of : (first last : ℕ) {p q : ℕ} → p ≡ 128 - first → q ≡ 127 - last
-      → bit_and (bit_and (bit_xor (low_w x + p * ones) (low_w x + q * ones)) (0xffff_ffff_ffff_ffff - x)) 0x8080_8080_8080_8080
-      ≡ bit_and (bit_and (bit_xor (low_w x + (128 - first) * ones) (low_w x + (127 - last) * ones)) (0xffff_ffff_ffff_ffff - x)) 0x8080_8080_8080_8080
-  range_of first last d e = λ i. bit_and (bit_and (bit_xor (low_w x + d i * ones) (low_w x + e i * ones)) (0xffff_ffff_ffff_ffff - x)) 0x8080_8080_8080_8080
-
-  pub between_is : (first last : ℕ) → first ≤ last → last < 128
-      → bit_and (bit_and (bit_xor (low_w x + (128 - first) * ones) (low_w x + (127 - last) * ones)) (0xffff_ffff_ffff_ffff - x)) 0x8080_8080_8080_8080 ≡ lanes (marked first last) 8 x
-  between_is first last k l =
+  pub between_is : (first last p q : ℕ) → p ≡ 128 - first → q ≡ 127 - last → first ≤ last → last < 128
+      → bit_and (bit_and (bit_xor (low_w x + p * ones) (low_w x + q * ones)) (0xffff_ffff_ffff_ffff - x)) 0x8080_8080_8080_8080 ≡ lanes (marked first last) 8 x
+  between_is first last p q d e k l =
       let more : (c : ℕ) → c ≤ 128 → Small (λ b. low b + c) = λ c m b n. let e = low_rest b n in omega arith in
       let reached : ℕ → ℕ = λ b. low b + (128 - first) in
       let passed : ℕ → ℕ = λ b. low b + (127 - last) in
@@ -157,7 +152,8 @@ module _ (x : ℕ) (h : x < 2 ^ 64) where
       λ b n. let e = and_le_l (bit_xor (reached b) (passed b)) (255 - b) in omega (arith, apart b n) in
       let self_not : 0xffff_ffff_ffff_ffff - x ≡ lanes (λ b. 255 - b) 8 x =
       ap (λ (n : ℕ). 0xffff_ffff_ffff_ffff - n) (sym id_is) ∙ not_is (λ b. b) (λ b n. n) x in
-      ap top_bits_of
+      (λ i. top_bits_of (bit_and (bit_xor (low_w x + d i * ones) (low_w x + e i * ones)) (0xffff_ffff_ffff_ffff - x)))
+      ∙ ap top_bits_of
       (ap₂ bit_and
       (ap₂ bit_xor (plus low (low_w x) (128 - first) x low_is) (plus low (low_w x) (127 - last) x low_is)
       ∙ xor reached passed (more (128 - first) (omega arith)) (more (127 - last) (omega arith)) 8 x)
@@ -167,37 +163,37 @@ module _ (x : ℕ) (h : x < 2 ^ 64) where
       ∙ ext (ranged first last) (marked first last) (byte_ranged first last k l) 8 x
 
   -- a capital letter as the small one
-  pub fold_is : x + lanes (marked 65 90) 8 x / 4 ≡ lanes lower 8 x
+  pub fold_is : (r : ℕ) → r ≡ lanes (marked 65 90) 8 x → x + r / 4 ≡ lanes lower 8 x
   unfolding any_below lower marked
-  fold_is =
-      ap₂ (λ (p q : ℕ). p + q) (sym id_is) (quarter (marked 65 90) refl 8 x)
+  fold_is r e =
+      ap₂ (λ (p q : ℕ). p + q) (sym id_is) (ap (λ (n : ℕ). n / 4) e ∙ quarter (marked 65 90) refl 8 x)
       ∙ add (λ b. b) (λ b. marked 65 90 b / 4) 8 x
       ∙ ext (λ b. b + marked 65 90 b / 4) lower (equal (λ b. b + marked 65 90 b / 4) lower refl) 8 x
 
   pub fold_fits : (r : ℕ) → r ≡ lanes (marked 65 90) 8 x → x + r / 4 < 2 ^ 64
-  fold_fits r e = rw (e, fold_is) (bound lower lower_small 8 x)
+  fold_fits r e = rw (fold_is r e) (bound lower lower_small 8 x)
 
   without_is : bit_or x 0x2020_2020_2020_2020 ≡ lanes without 8 x
   unfolding any_below
   without_is = ap₂ bit_or (sym id_is) (sym (same_byte 32 x)) ∙ or (λ b. b) (λ b. 32) (small (λ b. b) refl) (small (λ b. 32) refl) 8 x
 
-  pub foreign_is : top_bits_of (0xffff_ffff_ffff_ffff - bit_or (bit_or (bit_or (bit_or (lanes (marked 97 122) 8 (bit_or x 0x2020_2020_2020_2020)) (lanes (marked 48 57) 8 x)) (lanes (marked 45 45) 8 x)) (lanes (marked 95 95) 8 x)) (lanes (marked 10 10) 8 x)) ≡ lanes foreign 8 x
+  pub foreign_is : (l m n o p : ℕ) → l ≡ lanes (marked 97 122) 8 (bit_or x 0x2020_2020_2020_2020) → m ≡ lanes (marked 48 57) 8 x → n ≡ lanes (marked 45 45) 8 x → o ≡ lanes (marked 95 95) 8 x → p ≡ lanes (marked 10 10) 8 x
+      → bit_and (0xffff_ffff_ffff_ffff - bit_or (bit_or (bit_or (bit_or l m) n) o) p) 0x8080_8080_8080_8080 ≡ lanes foreign 8 x
   unfolding any_below is_letter is_name_byte foreign marked
-  foreign_is =
-      let letters : lanes (marked 97 122) 8 (bit_or x 0x2020_2020_2020_2020) ≡ lanes letter 8 x =
-      ap (lanes (marked 97 122) 8) without_is ∙ twice (marked 97 122) without (small without refl) 8 x in
-      let a = join letter (marked 48 57) _ _ x letters refl (small letter refl) (small (marked 48 57) refl) in
-      let b = join two (marked 45 45) _ _ x a refl (small two refl) (small (marked 45 45) refl) in
-      let c = join three (marked 95 95) _ _ x b refl (small three refl) (small (marked 95 95) refl) in
-      let d = join four (marked 10 10) _ _ x c refl (small four refl) (small (marked 10 10) refl) in
+  foreign_is l m n o p e f g h i =
+      let letters : l ≡ lanes letter 8 x = e ∙ ap (lanes (marked 97 122) 8) without_is ∙ twice (marked 97 122) without (small without refl) 8 x in
+      let a = join letter (marked 48 57) l m x letters f (small letter refl) (small (marked 48 57) refl) in
+      let b = join two (marked 45 45) _ n x a g (small two refl) (small (marked 45 45) refl) in
+      let c = join three (marked 95 95) _ o x b h (small three refl) (small (marked 95 95) refl) in
+      let d = join four (marked 10 10) _ p x c i (small four refl) (small (marked 10 10) refl) in
       ap top_bits_of (ap (λ (n : ℕ). 0xffff_ffff_ffff_ffff - n) d ∙ not_is five (small five refl) x)
       ∙ tops_is (λ b. 255 - five b) (small (λ b. 255 - five b) refl) x
       ∙ ext (λ b. bit_and (255 - five b) 128) foreign (equal (λ b. bit_and (255 - five b) 128) foreign refl) 8 x
 
 -- where a byte is none from `-` to `z`
-pub outer_is : (x : ℕ) → top_bits_of (0xffff_ffff_ffff_ffff - lanes (marked 45 122) 8 x) ≡ lanes outer 8 x
+pub outer_is : (x r : ℕ) → r ≡ lanes (marked 45 122) 8 x → bit_and (0xffff_ffff_ffff_ffff - r) 0x8080_8080_8080_8080 ≡ lanes outer 8 x
 unfolding any_below outer marked
-outer_is x =
-    ap top_bits_of (not_is (marked 45 122) (small (marked 45 122) refl) x)
+outer_is x r e =
+    ap top_bits_of (ap (λ (n : ℕ). 0xffff_ffff_ffff_ffff - n) e ∙ not_is (marked 45 122) (small (marked 45 122) refl) x)
     ∙ tops_is (λ b. 255 - marked 45 122 b) (small (λ b. 255 - marked 45 122 b) refl) x
     ∙ ext (λ b. bit_and (255 - marked 45 122 b) 128) outer (equal (λ b. bit_and (255 - marked 45 122 b) 128) outer refl) 8 x

@@ -86,8 +86,9 @@ few_bytes xs m p i l = go (ltb i (length xs)) (ltb-true i (length xs)) (ltb-fals
     go false f g = rw (get_or-append_right xs (replicate m 0) (length xs) i 0 refl (g refl), zero_at m (i - length xs)) (omega arith)
 
 -- at most eight bytes, with zeros behind them
-pub from_few : (few : List ℕ) (w : ℕ) → Bytes few → length few ≤ 8 → w ≡ from_le_bytes w64 (few ++ drop (length few) (replicate 8 0)) → w ≡ packed few
-from_few few w p l e =
+pub from_few : (few ys : List ℕ) (w : ℕ) → Bytes few → length few ≤ 8 → w ≡ from_le_bytes w64 (ys ++ drop (length few) (replicate 8 0)) → ys ≡ few → w ≡ packed few
+from_few few ys w p l d f =
+    let e : w ≡ from_le_bytes w64 (few ++ drop (length few) (replicate 8 0)) = d ∙ ap (λ (zs : List ℕ). from_le_bytes w64 (zs ++ drop (length few) (replicate 8 0))) f in
     let m : ℕ = 8 - length few in
     let all : List ℕ = few ++ replicate m 0 in
     let eight : length all ≡ 8 = omega (arith, length-append few (replicate m 0), length-replicate {A = ℕ} m 0) in
@@ -95,8 +96,10 @@ from_few few w p l e =
     e ∙ ap (λ (ys : List ℕ). from_le_bytes w64 (few ++ ys)) (drop-replicate (length few) 8 0) ∙ front.is ∙ ap packed (take_all 8 all (omega arith)) ∙ packed_append few (replicate m 0) ∙ rw (packed_zeros m) (omega arith)
 
 -- n bytes of a list
-pub few_word : (n at : ℕ) (xs : List ℕ) (w : ℕ) → Bytes xs → at + n ≤ length xs → w ≡ packed (take n (drop at xs)) → Word n at xs w
-few_word n at xs w p h e =
+pub few_word : (n at : ℕ) (xs : List ℕ) (w : ℕ) → Bytes xs → at + n ≤ length xs → w ≡ packed (take (at + n - at) (drop at xs)) → Word n at xs w
+few_word n at xs w p h d =
+    let z : at + n - at ≡ n = omega arith in
+    let e : w ≡ packed (take n (drop at xs)) = rw z at d in
     let long : length (take n (drop at xs)) ≡ n = length-take-le n (drop at xs) (omega (arith, length-drop at xs)) in
     record { is = e; below = rw e (rw long at (packed_below (take n (drop at xs)) (taken n (drop at xs) (dropped at xs p)))) }
 

@@ -11,6 +11,7 @@ const ONES: u64 = 0x0101_0101_0101_0101;
 const TOP_BITS: u64 = 0x8080_8080_8080_8080;
 
 // 128 in the place of each byte from FIRST to LAST, both below 128, and 0 in the others.
+#[tactic(auto, using(crate::proofs::Formulas::between_is))]
 fn bytes_between<const FIRST: u8, const LAST: u8>(x: u64) -> u64
     requires { (FIRST ≤ LAST) × (LAST < 128) }
     ensures { result ≡ lanes (marked FIRST LAST) 8 x }
@@ -22,6 +23,7 @@ fn bytes_between<const FIRST: u8, const LAST: u8>(x: u64) -> u64
 }
 
 // Each of the eight bytes, a capital letter as the small one.
+#[tactic(auto, using(crate::proofs::Formulas::fold_is, crate::proofs::Formulas::fold_fits))]
 fn fold_word(x: u64) -> u64
     ensures { result ≡ lanes lower 8 x }
 {
@@ -29,6 +31,7 @@ fn fold_word(x: u64) -> u64
 }
 
 // Whether two words are alike: in each of the eight places the bytes are the same, or one letter in its two cases.
+#[tactic(auto, using(crate::proofs::Alike::words_is))]
 pub fn words_alike(x: u64, y: u64) -> bool
     ensures { result ≡ words_alike x y }
 {
@@ -36,6 +39,7 @@ pub fn words_alike(x: u64, y: u64) -> bool
 }
 
 // How many bytes from `-` to `z` a word begins with.
+#[tactic(auto, using(crate::proofs::Zeros::zeros_ahead))]
 pub fn inner_ahead(x: u64) -> usize
     ensures { result ≡ inner_ahead 8 x }
 {
@@ -44,6 +48,7 @@ pub fn inner_ahead(x: u64) -> usize
 }
 
 // 128 in the place of each byte that may not stand in a names list, and 0 in the others.
+#[tactic(auto, using(crate::proofs::Formulas::foreign_is))]
 pub fn foreign_bytes(x: u64) -> u64
     ensures { result ≡ lanes foreign 8 x }
 {
@@ -56,6 +61,7 @@ pub fn foreign_bytes(x: u64) -> u64
 }
 
 // At most eight bytes as one number, the first byte the lowest.
+#[tactic(auto, using(crate::proofs::Reading::from_few))]
 fn number_of(bytes: &[u8]) -> u64
     requires { length bytes.now ≤ 8 }
     ensures { result ≡ packed bytes.now }
@@ -66,6 +72,7 @@ fn number_of(bytes: &[u8]) -> u64
 }
 
 // N bytes as one number: one load (bench/README.md says how that was seen).
+#[tactic(auto, using(crate::proofs::Reading::few_word))]
 pub fn word_at<const N: usize>(bytes: &[u8], at: usize) -> u64
     requires at_in_bounds { at + N ≤ length bytes.now }
     requires n_le_8 { N ≤ 8 }
@@ -87,6 +94,7 @@ pub fn word_or_rest(bytes: &[u8], at: usize) -> u64
 }
 
 // Puts the N low bytes of a number, the lowest first: one store.
+#[tactic(auto, using(crate::proofs::Placing::word_put))]
 pub fn put_word<const N: usize>(text: &mut [u8], at: usize, w: u64)
     requires at_in_bounds { at + N ≤ length text.old }
     requires n_le_8 { N ≤ 8 }
