@@ -61,13 +61,10 @@ fn same_name(a: &[u8], b: &[u8]) -> bool
     if a.len() != b.len() {
         return false;
     }
-    let words = a.len() / 8;
-    for k in 0..words {
-        if !words_alike(word_at::<8>(a, 8 * k), word_at::<8>(b, 8 * k)) {
-            return false;
-        }
-    }
-    same_rest(&a[8 * words..], &b[8 * words..])
+    let (a_words, a_rest) = a.as_chunks::<8>();
+    let (b_words, b_rest) = b.as_chunks::<8>();
+    a_words.iter().zip(b_words).all(|(x, y)| words_alike(u64::from_le_bytes(*x), u64::from_le_bytes(*y)))
+        && same_rest(a_rest, b_rest)
 }
 
 // Whether all bytes are name bytes.
@@ -91,12 +88,12 @@ fn only_list_bytes(names: &[u8]) -> bool
     if 6375 < names.len() {
         return false;
     }
-    let words = names.len() / 8;
+    let (words, rest) = names.as_chunks::<8>();
     let mut marks = 0;
-    for k in 0..words {
-        marks |= foreign_bytes(word_at::<8>(names, 8 * k));
+    for word in words {
+        marks |= foreign_bytes(u64::from_le_bytes(*word));
     }
-    marks == 0 && names[8 * words..].iter().all(|b| is_list_byte(*b))
+    marks == 0 && rest.iter().all(|b| is_list_byte(*b))
 }
 
 // One word more in a hash.
@@ -116,14 +113,12 @@ fn bucket(h: u64) -> usize
 // A seed for the hash, from the list's bytes, sixteen at a time, up to the 6,368th. No answer depends on it; names that share a bucket by one seed
 // do not by another.
 pub fn list_seed(names: &[u8]) -> u64 {
+    let (pairs, _) = names[..names.len().min(6368)].as_chunks::<16>();
     let mut seed = 0;
-    for i in (0..6368).step_by(16) {
-        if names.len() < i + 16 {
-            break;
-        }
+    for (i, pair) in pairs.iter().enumerate() {
         seed = mix(
-            seed ^ mix(i as u64, word_at::<8>(names, i + 8)),
-            word_at::<8>(names, i),
+            seed ^ mix(16 * i as u64, word_at::<8>(pair, 8)),
+            word_at::<8>(pair, 0),
         );
     }
     seed

@@ -85,15 +85,19 @@ few_bytes xs m p i l = go (ltb i (length xs)) (ltb-true i (length xs)) (ltb-fals
     go true f g = rw (get_or_append_left xs (replicate m 0) 0 i (f refl)) (p i (f refl))
     go false f g = rw (get_or-append_right xs (replicate m 0) (length xs) i 0 refl (g refl), zero_at m (i - length xs)) (omega arith)
 
+-- eight bytes
+pub eight_packed : (xs : List ℕ) → Bytes xs → length xs ≡ 8 → from_le_bytes w64 xs ≡ packed xs
+eight_packed xs p e = let front = from_front 7 xs p (omega arith) in front.is ∙ ap packed (take_all 8 xs (omega arith))
+
 -- at most eight bytes, with zeros behind them
 pub from_few : (few ys : List ℕ) (w : ℕ) → Bytes few → length few ≤ 8 → w ≡ from_le_bytes w64 (ys ++ drop (length few) (replicate 8 0)) → ys ≡ few → w ≡ packed few
 from_few few ys w p l d f =
-    let e : w ≡ from_le_bytes w64 (few ++ drop (length few) (replicate 8 0)) = d ∙ ap (λ (zs : List ℕ). from_le_bytes w64 (zs ++ drop (length few) (replicate 8 0))) f in
     let m : ℕ = 8 - length few in
-    let all : List ℕ = few ++ replicate m 0 in
-    let eight : length all ≡ 8 = omega (arith, length-append few (replicate m 0), length-replicate {A = ℕ} m 0) in
-    let front = from_front 7 all (few_bytes few m p) (omega arith) in
-    e ∙ ap (λ (ys : List ℕ). from_le_bytes w64 (few ++ ys)) (drop-replicate (length few) 8 0) ∙ front.is ∙ ap packed (take_all 8 all (omega arith)) ∙ packed_append few (replicate m 0) ∙ rw (packed_zeros m) (omega arith)
+    let eight : length (few ++ replicate m 0) ≡ 8 = omega (arith, length-append few (replicate m 0), length-replicate {A = ℕ} m 0) in
+    d ∙ ap (λ (zs : List ℕ). from_le_bytes w64 (zs ++ drop (length few) (replicate 8 0))) f
+    ∙ ap (λ (zs : List ℕ). from_le_bytes w64 (few ++ zs)) (drop-replicate (length few) 8 0)
+    ∙ eight_packed (few ++ replicate m 0) (few_bytes few m p) eight
+    ∙ packed_append few (replicate m 0) ∙ rw (packed_zeros m) (omega arith)
 
 -- n bytes of a list
 pub few_word : (n at : ℕ) (xs : List ℕ) (w : ℕ) → Bytes xs → at + n ≤ length xs → w ≡ packed (take (at + n - at) (drop at xs)) → Word n at xs w

@@ -5,9 +5,10 @@ ghost use Rattle.std.specs.Prelude.{◌≡◌, ◌+◌, ◌<◌, ◌≤◌, leng
 ghost use Rattle.model.specs.Names.{lower};
 ghost use Rattle.words.specs.Words.{lanes, marked, words_alike, inner_ahead, foreign, packed, Word, WordPut};
 
-// 1 in each of the eight bytes, and the top bit of each.
+// 1 in each of the eight bytes.
 const ONES: u64 = 0x0101_0101_0101_0101;
 
+// The top bit of each.
 const TOP_BITS: u64 = 0x8080_8080_8080_8080;
 
 // 128 in the place of each byte from FIRST to LAST, both below 128, and 0 in the others.
