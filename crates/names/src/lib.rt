@@ -21,6 +21,7 @@ pub struct Stretch {
 }
 
 // An ASCII letter.
+#[tactic(auto, unfolding(model::specs::Names::is_letter))]
 pub fn is_letter(b: u8) -> bool
     ensures { result ≡ is_letter b }
 {
@@ -28,10 +29,11 @@ pub fn is_letter(b: u8) -> bool
 }
 
 // A byte that may stand in a name: a letter, a digit, `-` or `_`.
+#[tactic(auto, unfolding(model::specs::Names::is_letter, model::specs::Names::is_name_byte))]
 pub fn is_name_byte(b: u8) -> bool
     ensures { result ≡ is_name_byte b }
 {
-    is_letter(b) || b.is_ascii_digit() || b == b'-' || b == b'_'
+    matches!(b, b'-' | b'_') || b.is_ascii_alphanumeric()
 }
 
 // A byte with the bit set by which a small letter differs from the capital one.
