@@ -65,8 +65,10 @@ fn same_name(a: &[u8], b: &[u8]) -> bool
     }
     let (a_words, a_rest) = a.as_chunks::<8>();
     let (b_words, b_rest) = b.as_chunks::<8>();
-    a_words.iter().zip(b_words).all(|(x, y)| words_alike(u64::from_le_bytes(*x), u64::from_le_bytes(*y)))
-        && same_rest(a_rest, b_rest)
+    a_words.iter().zip(b_words).all(|(x, y)| words_alike(
+        u64::from_le_bytes(*x),
+        u64::from_le_bytes(*y),
+    )) && same_rest(a_rest, b_rest)
 }
 
 // Whether all bytes are name bytes.
@@ -156,38 +158,31 @@ pub fn stretch_at(bytes: &[u8], at: usize, seed: u64) -> Stretch
     }
 }
 
-// Whether all bytes are name bytes; where `clean` is true it is known.
-fn named(name: &[u8], clean: bool) -> bool
-    requires { clean ≡ true → all_name_bytes name.now ≡ true }
-    ensures { result ≡ all_name_bytes name.now }
-{
-    clean || all_name_bytes(name)
+// A names list; where `clean` is true, only bytes that may stand in one are known to stand in it.
+#[derive(Clone, Copy)]
+struct ListBytes<'a> {
+    bytes: &'a [u8],
+    clean: bool,
+    ghost known: { clean ≡ true → OnlyListBytes 0 bytes.now } by { Prim.hlevel props },
 }
 
-// Where the name of the line that begins at `at` ends, if the line is a name followed by byte 10; `end` is where the stretch from there ends, and
-// where `clean` is true only name bytes and byte 10 stand in the list.
-fn name_end(names: &[u8], clean: bool, at: usize, end: usize) -> Option<usize>
-    requires at_in_bounds { at < length names.now }
-    requires end_value { (end ≡ at + length (stretch (drop at names.now))) × (end ≤ length names.now) }
-    requires only_list_bytes { clean ≡ true → OnlyListBytes 0 names.now }
-    ensures { result ≡ name_end names.now at }
-{
-    if end == names.len() {
-        return None;
-    }
-    if names[end] != b'\n' {
-        return None;
-    }
-    if 24 < end - at {
-        return None;
-    }
-    if !named(&names[at..end], clean) {
-        return None;
-    }
-    if is_letter(names[at]) {
-        Some(end)
-    } else {
-        None
+impl<'a> ListBytes<'a> {
+    // Where the name of the line that begins at `at` ends, if the line is a name followed by byte 10; `end` is where the stretch from there ends.
+    fn name_end(&self, at: usize, end: usize) -> Option<usize>
+        requires at_in_bounds { at < length self.now.bytes.now }
+        requires end_value { (end ≡ at + length (stretch (drop at self.now.bytes.now))) × (end ≤ length self.now.bytes.now) }
+        ensures { result ≡ name_end self.now.bytes.now at }
+    {
+        let name = &self.bytes[at..end];
+        if self.bytes.get(end) == Some(&b'\n')
+            && name.len() <= 24
+            && is_letter(self.bytes[at])
+            && (self.clean || all_name_bytes(name))
+        {
+            Some(end)
+        } else {
+            None
+        }
     }
 }
 
@@ -281,7 +276,10 @@ impl NamesRoom {
             heads,
             next,
         } = self;
-        let clean = only_list_bytes(names);
+        let list = ListBytes {
+            bytes: names,
+            clean: only_list_bytes(names),
+        };
         // not a `for`: each line's end says where the next line begins
         let mut n = 0;
         let mut at = 0;
@@ -290,19 +288,15 @@ impl NamesRoom {
                 return Err(Refusal::new(Kind::FaultyNames, n));
             }
             let stretch = stretch_at(names, at, seed);
-            let Some(end) = name_end(names, clean, at, stretch.end) else {
+            let Some(end) = list.name_end(at, stretch.end) else {
                 return Err(Refusal::new(Kind::FaultyNames, n));
             };
             let b = stretch.bucket;
-            let lines = NameLines {
-                names,
-                starts: &*starts,
-                n,
-            };
+            let lines = NameLines { names, starts, n };
             let index = NamesIndex {
                 lines,
-                heads: &*heads,
-                next: &*next,
+                heads,
+                next,
                 seed,
             };
             if index.find(b, &names[at..end]).is_some() {

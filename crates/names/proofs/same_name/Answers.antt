@@ -1,11 +1,9 @@
-use Rattle.std.proofs.Common.{◌≡◌, ◌*◌, ◌/◌, ◌&&◌, Bool, length, drop, true, false, sym, ap, ap₂, ◌∙◌, arith, rules, tests}
+use Rattle.std.proofs.Common.{◌&&◌, Bool, sym, ap, ◌∙◌, arith, rules, tests}
 use Rattle.std.proofs.lemmas.Iterator.{YieldsList-from_slice, YieldsList-from_zip}
 use Rattle.std.proofs.lemmas.Iterator.Search.{all_from_yields_List}
-use Rattle.std.specs.List.{list_all, zip}
 use Rattle.model.specs.Names.{alike, same_name}
 use Rattle.model.proofs.Lists.{same_length}
-use Rattle.names.specs.NamesIndex.{all_inner}
-use Rattle.names.proofs.Words.{alike_chunks, words_same, parts_same, dropped_clean, dropped_inner}
+use Rattle.names.proofs.Words.{alike_chunks, parts_same, dropped_clean, dropped_inner}
 use Rattle.names.proofs.same_name.Goals as goal
 
 pub returns-then-a-b : goal.returns-then-a-b
