@@ -1,13 +1,13 @@
 // Names lists: refusal 17, and the line with a name.
 #![tactic(auto)]
 
-ghost use Rattle.std.specs.Prelude.{◌≡◌, true, ◌+◌, ◌<◌, ◌≤◌, length, drop, IfOk};
+ghost use Rattle.std.specs.Prelude.{◌≡◌, true, ◌+◌, ◌<◌, ◌≤◌, length, slice_index, drop, IfOk};
 ghost use Rattle.std.proofs.Props.{props};
 ghost use Rattle.model.specs.Answers.{Outcome};
 ghost use Rattle.model.specs.Names.{is_letter, is_name_byte, all_name_bytes, same_name, line_at, how_many_names, names_then};
 ghost use Rattle.chains.specs.Chains.{Clear};
 ghost use Rattle.words.specs.Words.{is_list_byte};
-ghost use Rattle.names.specs.NamesIndex.{caseless, all_inner, stretch, front_of, mixed, bucket_at, hash_of, StretchFrom, OnlyListBytes, name_end, name_found, Lined, NamesIndexed, Started, names_check_then, NamesAnswer};
+ghost use Rattle.names.specs.NamesIndex.{caseless, all_inner, stretch, front_of, mixed, bucket_at, hash_of, StretchFrom, OnlyListBytes, name_end, name_found, Lined, NamesIndexed, Falling, Started, names_check_then, NamesAnswer};
 
 use chains::mixed;
 use model::{Kind, Refusal};
@@ -65,10 +65,11 @@ fn same_name(a: &[u8], b: &[u8]) -> bool
     }
     let (a_words, a_rest) = a.as_chunks::<8>();
     let (b_words, b_rest) = b.as_chunks::<8>();
-    a_words.iter().zip(b_words).all(|(x, y)| words_alike(
+    let same_words = a_words.iter().zip(b_words).all(|(x, y)| words_alike(
         u64::from_le_bytes(*x),
         u64::from_le_bytes(*y),
-    )) && same_rest(a_rest, b_rest)
+    ));
+    same_words && same_rest(a_rest, b_rest)
 }
 
 // Whether all bytes are name bytes.
@@ -218,20 +219,53 @@ pub struct NamesIndex<'a> {
     ghost indexed: { NamesIndexed seed lines.names.now lines.starts.now heads.now next.now lines.n } by { Prim.hlevel props },
 }
 
+// The lines of a bucket, the last first: `link` is 1 more than the next one's number, or 0 at their end.
+#[derive(Clone, Copy)]
+struct BucketLines<'a> {
+    links: &'a [u16; 256],
+    link: usize,
+    ghost falling: { Falling links.now link } by { Prim.hlevel props },
+}
+
+impl Iterator for BucketLines<'_> {
+    ghost use Rattle.names.specs.Walk.{lines_left, GivesLine};
+
+    type Item = usize;
+
+    ghost next_gives = { GivesLine };
+
+    ghost remaining = { lines_left };
+
+    fn next(&mut self) -> Option<usize> {
+        let k = self.link.checked_sub(1)?;
+        self.link = usize::from(self.links[k]);
+        Some(k)
+    }
+}
+
 impl<'a> NamesIndex<'a> {
+    // The lines whose names are in a bucket.
+    fn lines_in(&self, b: usize) -> BucketLines<'a>
+        requires { b < 512 }
+        ensures links { result.links.now ≡ self.now.next.now }
+        ensures link { result.link ≡ slice_index self.now.heads.now b }
+    {
+        BucketLines {
+            links: self.next,
+            link: usize::from(self.heads[b]),
+        }
+    }
+
     // The line whose name is equal to this; b is the name's bucket.
     pub fn find(&self, b: usize, name: &[u8]) -> Option<usize>
         requires hashed { (b ≡ hash_of self.now.seed name.now) × (b < 512) }
         requires name_value { all_inner name.now ≡ true }
         ensures { result ≡ name_found self.now.lines.names.now self.now.lines.n name.now }
     {
-        let mut p = usize::from(self.heads[b]);
-        while 0 < p {
-            let k = p - 1;
+        for k in self.lines_in(b) {
             if same_name(self.lines.name(k), name) {
                 return Some(k);
             }
-            p = usize::from(self.next[k]);
         }
         None
     }

@@ -15,22 +15,22 @@ same_rest-requires-clause-a_value c = rw c.as_chunks.ensures.back (dropped_clean
 pub same_rest-requires-clause-b_value : goal.same_rest-requires-clause-b_value
 same_rest-requires-clause-b_value c = rw c.as_chunks-2.ensures.back (dropped_inner _ c.args.b.now c.requires.b_value)
 
-pub returns-then-all : goal.returns-then-all
-returns-then-all c =
+pub returns-then-same_words : goal.returns-then-same_words
+returns-then-same_words c =
     let a = c.args.a.now in
     let b = c.args.b.now in
     let words = c.as_chunks.ensures in
     let others = c.as_chunks-2.ensures in
-    let ran = all_from_yields_List alike_chunks c.all.new.self c.all.new.f c.all.result c.all.ensures.ran (YieldsList-from_zip (YieldsList-from_slice c.as_chunks.result.0.now cc) (YieldsList-from_slice c.as_chunks-2.result.0.now cc)) (λ x r q k. search (rules, tests)) in
+    let ran = all_from_yields_List alike_chunks c.all-same_words.new.self c.all-same_words.new.f c.all-same_words.result c.all-same_words.ensures.ran (YieldsList-from_zip (YieldsList-from_slice c.as_chunks.result.0.now cc) (YieldsList-from_slice c.as_chunks-2.result.0.now cc)) (λ x r q k. search (rules, tests)) in
     parts_same a b _ _ _ _ _ _ (λ i l. omega (arith, c.type_inv.a i)) (λ i l. omega (arith, c.type_inv.b i)) (omega arith) words.front others.front words.back others.back ran
-    (c.same_rest.ensures ∙ ap (λ (t : Bool). t && same_name c.as_chunks.result.1.now c.as_chunks-2.result.1.now) (sym c.if-all.true))
+    (c.same_rest.ensures ∙ ap (λ (t : Bool). t && same_name c.as_chunks.result.1.now c.as_chunks-2.result.1.now) (sym c.if-same_words.true))
 
-pub returns-else-all : goal.returns-else-all
-returns-else-all c =
+pub returns-else-same_words : goal.returns-else-same_words
+returns-else-same_words c =
     let a = c.args.a.now in
     let b = c.args.b.now in
     let words = c.as_chunks.ensures in
     let others = c.as_chunks-2.ensures in
-    let ran = all_from_yields_List alike_chunks c.all.new.self c.all.new.f c.all.result c.all.ensures.ran (YieldsList-from_zip (YieldsList-from_slice c.as_chunks.result.0.now cc) (YieldsList-from_slice c.as_chunks-2.result.0.now cc)) (λ x r q k. search (rules, tests)) in
+    let ran = all_from_yields_List alike_chunks c.all-same_words.new.self c.all-same_words.new.f c.all-same_words.result c.all-same_words.ensures.ran (YieldsList-from_zip (YieldsList-from_slice c.as_chunks.result.0.now cc) (YieldsList-from_slice c.as_chunks-2.result.0.now cc)) (λ x r q k. search (rules, tests)) in
     parts_same a b _ _ _ _ _ _ (λ i l. omega (arith, c.type_inv.a i)) (λ i l. omega (arith, c.type_inv.b i)) (omega arith) words.front others.front words.back others.back ran
-    (c.if-all.false ∙ ap (λ (t : Bool). t && same_name c.as_chunks.result.1.now c.as_chunks-2.result.1.now) (sym c.if-all.false))
+    (c.if-same_words.false ∙ ap (λ (t : Bool). t && same_name c.as_chunks.result.1.now c.as_chunks-2.result.1.now) (sym c.if-same_words.false))
