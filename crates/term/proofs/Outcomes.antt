@@ -14,6 +14,7 @@ use Rattle.model.specs.Names.{how_many_names, names_then}
 use Rattle.model.specs.Term.{Scan, passes, breaks_at}
 use Rattle.model.specs.Tree.{WellFormed}
 use Rattle.model.specs.TermOperations.{entries_of, bytes_of, fits_in, read_fits, read_named, symbol_ground, write_fits, write_formed, write_named, read_term_outcome, write_term_outcome, read_term_list, write_term_list}
+use Rattle.model.specs.declared.Kind.TheVariants.{NotATerm}
 use Rattle.model.specs.declared.Refusal.{Refusal}
 use Rattle.std.specs.List.{position, position_or_len}
 use Rattle.std.proofs.lemmas.List.Sums.{passes_at_first, fails_before_first}
@@ -22,7 +23,7 @@ use Rattle.tree.specs.Reading.{Decides}
 use Rattle.tree.proofs.Laws.{list_refused, list_taken}
 use Rattle.chains.specs.First.{first_with}
 use Rattle.chains.proofs.First.{first_is, first_at, none_first, first_none, apart}
-use Rattle.scan.specs.TextState.{place_of}
+use Rattle.scan.specs.TextState.{place_of, not_a_term_at}
 use Rattle.term.specs.Emit.{entries_text}
 use Rattle.term.specs.Pass.{unlisted_at, Cleared, pass_then, Passed}
 use Rattle.term.specs.Written.{Front, EntriesNamed, Gave, ReadTerm, WriteTerm}
@@ -52,13 +53,13 @@ pub fits_well : (needed room : ℕ) → needed ≤ 4096 → needed ≤ room → 
 fits_well needed room h l = rw (le-ltb 4096 needed h, le-ltb room needed l)
 
 -- 19 before 20
-pub unlisted_breaks : (s : Scan) (p place : ℕ) → Some p ≡ place_of s → refused 19 p ≡ unlisted_at s place
-unlisted_breaks passes p place e = apart p e
-unlisted_breaks (breaks_at q) p place e = let z : p ≡ q = cc in ap (refused 19) z
+pub unlisted_breaks : (s : Scan) (r : Result (Unit {0}) Refusal) (place : ℕ) → r ≡ not_a_term_at (place_of s) → (e : Refusal) → r ≡ Err e → refused_by e ≡ unlisted_at s place
+unlisted_breaks passes r place f e h = let z : ◌≡◌ {A = ℕ} 0 1 = cc in absurd (omega arith)
+unlisted_breaks (breaks_at q) r place f e h = let z : e ≡ record { place = q; kind = NotATerm } = cc in ap refused_by z
 
-pub unlisted_whole : (s : Scan) (place : ℕ) → None ≡ place_of s → refused 20 place ≡ unlisted_at s place
-unlisted_whole passes place e = refl
-unlisted_whole (breaks_at q) place e = apart q (sym e)
+pub unlisted_whole : (s : Scan) (r : Result (Unit {0}) Refusal) (place : ℕ) → r ≡ not_a_term_at (place_of s) → r ≡ Ok tt → refused 20 place ≡ unlisted_at s place
+unlisted_whole passes r place f h = refl
+unlisted_whole (breaks_at q) r place f h = let z : ◌≡◌ {A = ℕ} 0 1 = cc in absurd (omega arith)
 
 pub cleared : Cleared (replicate 4096 0)
 cleared = record { long = length-replicate {A = ℕ} 4096 0; none = λ k l. get_or-replicate {A = ℕ} 4096 k 0 0 l }

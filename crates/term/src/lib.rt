@@ -18,18 +18,19 @@ use scan::scan_text;
 use tree::check_tree;
 use words::{put_word, word_at};
 
-// What follows a name: another name is due at a place, with so many brackets open, after so many bars; or the text ends, after so many bars.
+// What follows a name.
 #[derive(Clone, Copy)]
 pub enum After {
-    Name(usize, usize, usize),
-    Ends(usize),
-}
-
-// Whether the byte at a place is `(`.
-fn opens(text: &[u8], at: usize) -> bool
-    ensures { result ≡ eqb (get_or text.now at 0) 40 }
-{
-    at < text.len() && text[at] == b'('
+    // another name is due at a place, with so many brackets open, after so many bars
+    Name {
+        place: usize,
+        open: usize,
+        bars: usize,
+    },
+    // the text ends, after so many bars
+    Ends {
+        bars: usize,
+    },
 }
 
 // How many `)` stand at a place, no more than brackets are open.
@@ -37,12 +38,11 @@ fn closes(text: &[u8], at: usize, depth: usize) -> usize
     requires { at ≤ length text.now }
     ensures { Closing text.now at depth result }
 {
-    for c in 0..depth {
-        if text.len() <= at + c || text[at + c] != b')' {
-            return c;
-        }
-    }
-    depth
+    text[at..]
+        .iter()
+        .take(depth)
+        .take_while(|b| **b == b')')
+        .count()
 }
 
 // What follows the name that ends at a place, or refusal 19 where the text stops being a term.
@@ -50,34 +50,23 @@ fn after_name(text: &[u8], end: usize, depth: usize) -> Result<After, Refusal>
     requires { (end ≤ length text.now) × (is_name_byte (get_or text.now end 0) ≡ false) × (depth ≤ 65536) }
     ensures { Follows text.now end depth result }
 {
-    if opens(text, end) {
-        return Ok(After::Name(end + 1, depth + 1, 0));
+    if text.get(end) == Some(&b'(') {
+        return Ok(After::Name {
+            place: end + 1,
+            open: depth + 1,
+            bars: 0,
+        });
     }
     let c = closes(text, end, depth);
     let i = end + c;
-    if i == text.len() {
-        if depth == c {
-            return Ok(After::Ends(c + 1));
-        }
-        return Err(Refusal::new(Kind::NotATerm, i));
-    }
-    if depth == c {
-        return Err(Refusal::new(Kind::NotATerm, i));
-    }
-    if text[i] == b',' {
-        return Ok(After::Name(i + 1, depth - c, c + 1));
-    }
-    Err(Refusal::new(Kind::NotATerm, i))
-}
-
-// What stands at a place is not listed: 20 where the whole text is a term, and else 19 where it stops being one.
-fn unlisted(text: &[u8], place: usize) -> Refusal
-    requires { length text.now ≤ 65536 }
-    ensures { refused_by result ≡ unlisted_at (scanned text.now) place }
-{
-    match scan_text(text) {
-        Some(p) => Refusal::new(Kind::NotATerm, p),
-        None => Refusal::new(Kind::UnlistedName, place),
+    match text.get(i) {
+        None if c == depth => Ok(After::Ends { bars: c + 1 }),
+        Some(b',') if c < depth => Ok(After::Name {
+            place: i + 1,
+            open: depth - c,
+            bars: c + 1,
+        }),
+        _ => Err(Refusal::new(Kind::NotATerm, i)),
     }
 }
 
@@ -104,12 +93,13 @@ fn read_text(list: &NamesList, text: &[u8], entries: &mut [u8; 4096]) -> Result<
         let stretch = stretch_at(text, i, list.index.seed);
         let end = stretch.end;
         let Some(k) = list.index.find(stretch.bucket, &text[i..end]) else {
-            return Err(unlisted(text, i));
+            scan_text(text)?;
+            return Err(Refusal::new(Kind::UnlistedName, i));
         };
-        put_symbol(&mut *entries, at, (k + 1) as u8);
+        put_symbol(entries, at, (k + 1) as u8);
         match after_name(text, end, depth)? {
-            After::Ends(bars) => return Ok(at + 1 + bars),
-            After::Name(place, open, bars) => {
+            After::Ends { bars } => return Ok(at + 1 + bars),
+            After::Name { place, open, bars } => {
                 at += 1 + bars;
                 depth = open;
                 i = place;
