@@ -22,7 +22,7 @@ use Rattle.model.proofs.Choice.{no_fault, fault_refused, is_false, not_both}
 use Rattle.tree.specs.Reading.{Decides}
 use Rattle.tree.proofs.Laws.{list_refused, list_taken}
 use Rattle.chains.specs.First.{first_with}
-use Rattle.chains.proofs.First.{first_is, first_at, none_first, first_none, apart}
+use Rattle.chains.proofs.First.{first_is, first_at, none_first, first_none}
 use Rattle.scan.specs.TextState.{place_of, not_a_term_at}
 use Rattle.term.specs.Emit.{entries_text}
 use Rattle.term.specs.Pass.{unlisted_at, Cleared, pass_then, Passed}

@@ -3,12 +3,12 @@
 
 ghost use Rattle.std.specs.Prelude.{◌≡◌, false, ◌+◌, ◌-◌, ◌<◌, ◌≤◌, length, get_or, take, ltb, eqb};
 ghost use Rattle.model.specs.Answers.{refused_by};
-ghost use Rattle.model.specs.Names.{is_name_byte};
+ghost use Rattle.model.specs.Names.{is_name_byte, name_of};
 ghost use Rattle.model.specs.Tree.{WellFormed};
 ghost use Rattle.model.specs.TermOperations.{fits_in, read_named, write_fits, write_formed, write_named};
 ghost use Rattle.chains.specs.First.{first_with};
 ghost use Rattle.scan.specs.TextState.{scanned};
-ghost use Rattle.term.specs.Emit.{entry_text, closing, mark_after, entries_text};
+ghost use Rattle.term.specs.Emit.{entry_text, mark_after, entries_text};
 ghost use Rattle.term.specs.Written.{Put, Front, EntriesNamed, Gave, ReadBy, WriteBy, ReadTerm, WriteTerm};
 ghost use Rattle.term.specs.Pass.{Closing, Follows, unlisted_at, SymbolPut, Cleared, Passed};
 
@@ -168,38 +168,41 @@ fn mark_after(e: u16) -> u8
     if e == 0 { b',' } else { b'(' }
 }
 
-// The line of a symbol's name, the first being line 0; 0 for a bar too.
-fn line_before(e: u16) -> usize
-    ensures { result ≡ e - 1 }
+// The name of a symbol.
+#[tactic(auto, using(crate::proofs::EntryText::name_line, crate::proofs::EntryText::name_short))]
+fn symbol_name<'a>(lines: &NameLines<'a>, e: u16) -> &'a [u8]
+    requires { (0 < e) × (e ≤ lines.now.n) }
+    ensures name { result.now ≡ name_of lines.now.names.now e }
+    ensures short { length result.now ≤ 24 }
 {
-    usize::from(e).saturating_sub(1)
-}
-
-// 1 for a bar after a bar: it gives `)`.
-fn closing_length(before: u16, e: u16) -> usize
-    ensures { result ≡ closing (mark_after before) e }
-{
-    if e == 0 && before == 0 { 1 } else { 0 }
+    lines.name(usize::from(e) - 1)
 }
 
 // How many bytes the first entry gives.
+#[tactic(auto, using(crate::proofs::EntryText::first_bar, crate::proofs::EntryText::first_name))]
 fn first_length(lines: &NameLines, e: u16) -> usize
     requires { e ≤ lines.now.n }
     ensures { (result ≡ length (entry_text lines.now.names.now 0 e)) × (result ≤ 25) }
 {
     if e == 0 {
-        return 0;
+        0
+    } else {
+        symbol_name(lines, e).len()
     }
-    lines.name(usize::from(e) - 1).len()
 }
 
-// How many bytes an entry gives after another one. A line has one byte more than its name, where the text has the separator.
+// How many bytes an entry gives after another one: `)` for a bar after a bar, and a separator and the name for a symbol.
+// (It is `put_entry_text`, counting. As one function the two would need a trait for where the bytes go, and two types with it: more than the match it saves.)
+#[tactic(auto, using(crate::proofs::EntryText::after_bar, crate::proofs::EntryText::after_leaf, crate::proofs::EntryText::after_name))]
 fn entry_length(lines: &NameLines, before: u16, e: u16) -> usize
     requires { e ≤ lines.now.n }
     ensures { (result ≡ length (entry_text lines.now.names.now (mark_after before) e)) × (result ≤ 25) }
 {
-    usize::from(lines.starts[usize::from(e)]) - usize::from(lines.starts[line_before(e)])
-        + closing_length(before, e)
+    match e {
+        0 if before == 0 => 1,
+        0 => 0,
+        _ => 1 + symbol_name(lines, e).len(),
+    }
 }
 
 // How many bytes the tree's term has.
@@ -207,12 +210,14 @@ fn text_length(lines: &NameLines, tree: &[u16]) -> usize
     requires { EntriesNamed lines.now.n tree.now }
     ensures { result ≡ length (entries_text lines.now.names.now 0 tree.now) }
 {
-    if tree.is_empty() {
+    let Some((first, rest)) = tree.split_first() else {
         return 0;
-    }
-    let mut sum = first_length(lines, tree[0]);
-    for i in 1..tree.len() {
-        sum += entry_length(lines, tree[i - 1], tree[i]);
+    };
+    let mut sum = first_length(lines, *first);
+    let mut before = *first;
+    for e in rest {
+        sum += entry_length(lines, before, *e);
+        before = *e;
     }
     sum
 }
@@ -236,7 +241,7 @@ fn put_words<const N: usize>(to: &mut [u8], bytes: &[u8])
 {
     let last = bytes.len() - N;
     for k in 0..(bytes.len() - 1) / N {
-        put_word::<N>(&mut *to, N * k, word_at::<N>(bytes, N * k));
+        put_word::<N>(to, N * k, word_at::<N>(bytes, N * k));
     }
     put_word::<N>(to, last, word_at::<N>(bytes, last));
 }
@@ -258,26 +263,38 @@ pub fn put_bytes(text: &mut [u8], at: usize, bytes: &[u8]) -> usize
     after
 }
 
-// Puts the bytes that an entry gives at a place; gives the place after them. The mark is 0 before the first entry, as in the definition: an Option
-// would be one more `match` for each entry, and say no more.
-fn put_entry_text(lines: &NameLines, mark: u8, e: u16, text: &mut [u8], at: usize) -> usize
+// Puts the bytes that the first entry gives at the front of the list; gives the place after them.
+#[tactic(auto, using(crate::proofs::EntryText::first_bar, crate::proofs::EntryText::first_name, crate::proofs::Pieces::put_none))]
+fn put_first(lines: &NameLines, e: u16, text: &mut [u8]) -> usize
     requires e_le_n { e ≤ lines.now.n }
-    requires e_in_bounds { at + length (entry_text lines.now.names.now mark e) ≤ length text.old }
-    ensures { Put text.old text.new (entry_text lines.now.names.now mark e) at result }
+    requires e_in_bounds { length (entry_text lines.now.names.now 0 e) ≤ length text.old }
+    ensures { Put text.old text.new (entry_text lines.now.names.now 0 e) 0 result }
 {
     if e == 0 {
-        if mark == b',' {
+        0
+    } else {
+        put_bytes(text, 0, symbol_name(lines, e))
+    }
+}
+
+// Puts the bytes that an entry gives after another one at a place; gives the place after them.
+#[tactic(auto, using(crate::proofs::EntryText::after_bar, crate::proofs::EntryText::after_leaf, crate::proofs::EntryText::after_name, crate::proofs::EntryText::marked, crate::proofs::Pieces::put_one, crate::proofs::Pieces::put_none))]
+fn put_entry_text(lines: &NameLines, before: u16, e: u16, text: &mut [u8], at: usize) -> usize
+    requires e_le_n { e ≤ lines.now.n }
+    requires e_in_bounds { at + length (entry_text lines.now.names.now (mark_after before) e) ≤ length text.old }
+    ensures { Put text.old text.new (entry_text lines.now.names.now (mark_after before) e) at result }
+{
+    match e {
+        0 if before == 0 => {
             text[at] = b')';
-            return at + 1;
+            at + 1
         }
-        return at;
+        0 => at,
+        _ => {
+            text[at] = mark_after(before);
+            put_bytes(text, at + 1, symbol_name(lines, e))
+        }
     }
-    let name = lines.name(usize::from(e) - 1);
-    if mark == 0 {
-        return put_bytes(text, at, name);
-    }
-    text[at] = mark;
-    put_bytes(text, at + 1, name)
 }
 
 // Puts the tree's term at the front of the list.
@@ -286,11 +303,14 @@ fn put_text(lines: &NameLines, tree: &[u16], text: &mut [u8])
     requires tree_in_bounds { length (entries_text lines.now.names.now 0 tree.now) ≤ length text.old }
     ensures { Front text.old text.new (entries_text lines.now.names.now 0 tree.now) }
 {
-    let mut at = 0;
-    let mut mark = 0;
-    for e in tree {
-        at = put_entry_text(lines, mark, *e, &mut *text, at);
-        mark = mark_after(*e);
+    let Some((first, rest)) = tree.split_first() else {
+        return;
+    };
+    let mut at = put_first(lines, *first, text);
+    let mut before = *first;
+    for e in rest {
+        at = put_entry_text(lines, before, *e, text, at);
+        before = *e;
     }
 }
 

@@ -1,8 +1,7 @@
-use Rattle.std.proofs.Common.{ℕ, ◌+◌, length, sym, ap, ◌∙◌, arith}
-use denote.Ref.{Bor}
+use Rattle.std.proofs.Common.{◌+◌, length, sym, ap, ◌∙◌, arith}
 use Rattle.model.specs.Answers.{refused_by}
 use Rattle.names.proofs.Bytes.{byte_is, no_byte, some_byte}
-use Rattle.term.proofs.Marks.{opened_on, shut_ends, shut_early, shut_over, shut_rest, shut_comma}
+use Rattle.term.proofs.Marks.{opened_on, shut_ends, shut_early, shut_rest, shut_comma}
 use Rattle.term.proofs.after_name.Goals.{in_default-via-in-None+else-c-depth, in_default-via-in-Some-eq44+else-c-depth-2, in_default-via-in-Some+in_default}
 use Rattle.term.proofs.after_name.Goals as goal
 

@@ -1,8 +1,7 @@
-use Rattle.std.proofs.Common.{◌-◌, eqb, take, drop, ap, ◌∙◌, rules, tests, length}
+use Rattle.std.proofs.Common.{◌-◌, eqb, take, drop, rules, tests, length}
 use Rattle.std.proofs.lemmas.Iterator.{YieldsList-from_slice, YieldsList-from_take}
 use Rattle.std.proofs.lemmas.Iterator.Search.{YieldsList-from_take_while}
 use Rattle.std.proofs.lemmas.Iterator.Consumers.{count_from_yields_List}
-use Rattle.std.proofs.lemmas.List.Folds.{length-prefix_len}
 use Rattle.term.proofs.Marks.{closing_is}
 use Rattle.term.proofs.closes.Goals as goal
 
