@@ -96,20 +96,16 @@ module _ {names text entries : List ℕ} {r : Result ℕ Refusal} (x : Passed na
 pub text_too_long : (names text : List ℕ) (room : ℕ) → 65536 < length text → refused 18 0 ≡ read_named 4096 names text room
 text_too_long names text room l = rw (lt-ltb 65536 (length text) l)
 
--- 17
-module _ {A : Type 0} (names : List ℕ) {r : Result A Refusal} (decided : (o : Outcome) → names_check_then r o ≡ names_then names o) where
-  pub faulty_names : (k : Refusal) (o : Outcome) → r ≡ Err k → refused_by k ≡ names_then names o
-  faulty_names k o e = rw e at (decided o)
+-- 17, and what follows where the names list keeps to the rules
+module _ {A : Type 0} (names : List ℕ) {r : Result A Refusal} (decided : (o : Outcome) → names_check_then r o ≡ names_then names o) (o : Outcome) {written old : List ℕ} where
+  pub gave_faulty : (k : Refusal) → r ≡ Err k → Gave (names_then names o) written old old (Err k)
+  gave_faulty k e = gave_refused _ _ refl (rw e at (decided o))
 
-  pub sound_names : (l : A) (o : Outcome) → r ≡ Ok l → o ≡ names_then names o
-  sound_names l o e = rw e at (decided o)
+  pub gave_sound : {new : List ℕ} {a : Result ℕ Refusal} (l : A) → r ≡ Ok l → Gave o written old new a → Gave (names_then names o) written old new a
+  gave_sound l e g = gave_same (rw e at (decided o)) g
 
-pub read_by : (names text : List ℕ) (room : ℕ) → names_then names (read_named 4096 names text room) ≡ read_term_outcome names text room
-unfolding read_term_outcome
-read_by names text room = refl
-
-pub read_told : {names text old new : List ℕ} {r : Result ℕ Refusal} → Gave (read_term_outcome names text (length old)) (entries_of names text) old new r → ReadTerm names text old new r
-unfolding read_term_list
+pub read_told : {names text old new : List ℕ} {r : Result ℕ Refusal} → Gave (names_then names (read_named 4096 names text (length old))) (entries_of names text) old new r → ReadTerm names text old new r
+unfolding read_term_outcome read_term_list
 read_told g = record { answer = g.answer; list = g.list }
 
 -- ---- writing
@@ -168,10 +164,6 @@ module _ {tree : List ℕ} {f : Result (Unit {0}) Refusal} (x : Decides tree f) 
   pub a_tree : f ≡ Ok tt → write_formed names tree room ≡ write_named names tree room
   a_tree e = list_taken x e (write_formed names tree room)
 
-pub write_by : (names tree : List ℕ) (room : ℕ) → names_then names (write_named names tree room) ≡ write_term_outcome names tree room
-unfolding write_term_outcome
-write_by names tree room = refl
-
-pub write_told : {names tree old new : List ℕ} {r : Result ℕ Refusal} → Gave (write_term_outcome names tree (length old)) (bytes_of names tree) old new r → WriteTerm names tree old new r
-unfolding write_term_list
+pub write_told : {names tree old new : List ℕ} {r : Result ℕ Refusal} → Gave (names_then names (write_named names tree (length old))) (bytes_of names tree) old new r → WriteTerm names tree old new r
+unfolding write_term_outcome write_term_list
 write_told g = record { answer = g.answer; list = g.list }
