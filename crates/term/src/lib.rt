@@ -1,7 +1,7 @@
 // Terms: reading one into a tree, and writing a tree as one.
 #![tactic(auto)]
 
-ghost use Rattle.std.specs.Prelude.{◌≡◌, false, ◌+◌, ◌-◌, ◌<◌, ◌≤◌, length, get_or, take, ltb, eqb};
+ghost use Rattle.std.specs.Prelude.{◌≡◌, false, ◌+◌, ◌-◌, ◌^◌, ◌<◌, ◌≤◌, length, get_or, take, ltb, eqb};
 ghost use Rattle.model.specs.Answers.{refused_by};
 ghost use Rattle.model.specs.Names.{is_name_byte, name_of};
 ghost use Rattle.model.specs.Tree.{WellFormed};
@@ -10,7 +10,7 @@ ghost use Rattle.chains.specs.First.{first_with};
 ghost use Rattle.scan.specs.TextState.{scanned};
 ghost use Rattle.term.specs.Emit.{entry_text, mark_after, entries_text};
 ghost use Rattle.term.specs.Written.{Put, Front, EntriesNamed, Gave, ReadBy, WriteBy, ReadTerm, WriteTerm};
-ghost use Rattle.term.specs.Pass.{Closing, Follows, unlisted_at, SymbolPut, Cleared, Passed};
+ghost use Rattle.term.specs.Pass.{Closing, Follows, unlisted_at, SymbolPut, Cleared, counted, Passed};
 
 use model::{Answer, Kind, Refusal};
 use names::{NameLines, NamesList, NamesRoom, list_seed, stretch_at};
@@ -70,23 +70,50 @@ fn after_name(text: &[u8], end: usize, depth: usize) -> Result<After, Refusal>
     }
 }
 
-// Keeps a symbol, where there is room.
-fn put_symbol(entries: &mut [u8; 4096], at: usize, symbol: u8)
-    requires { length entries.old ≡ 4096 }
-    ensures { SymbolPut entries.old entries.new at symbol }
-{
-    if at < 4096 {
-        entries[at] = symbol;
+// The entries of a tree, as many as there is room for, and how many it has. The bars are there: the room begins cleared.
+#[derive(Drop)]
+struct Entries {
+    kept: [u8; 4096],
+    count: usize,
+}
+
+impl Entries {
+    // Adds a symbol, and keeps it where there is room.
+    fn push(&mut self, symbol: u8)
+        requires long { length self.old.kept ≡ 4096 }
+        requires fits { self.old.count + 1 < 2 ^ 64 }
+        ensures kept { SymbolPut self.old.kept self.new.kept self.old.count symbol }
+        ensures count { self.new.count ≡ self.old.count + 1 }
+    {
+        if self.count < 4096 {
+            self.kept[self.count] = symbol;
+        }
+        self.count += 1;
+    }
+
+    // Puts them at the front of the list, where they are not too many and there is room.
+    fn put_into(&self, tree: &mut [u16]) -> Answer
+        requires { length self.now.kept ≡ 4096 }
+        ensures { Gave (fits_in 4096 self.now.count (length tree.old)) (take self.now.count self.now.kept) tree.old tree.new result }
+    {
+        if 4096 < self.count {
+            return Err(Refusal::new(Kind::TermTreeTooLong, 0));
+        }
+        if tree.len() < self.count {
+            return Err(Refusal::new(Kind::ShortTermTree, self.count));
+        }
+        put_front(&self.kept, self.count, tree);
+        Ok(self.count as u64)
     }
 }
 
-// Reads the text, and keeps the entries of its tree, as many as there is room for: gives how many it has, or refusal 19 or 20. The bars are there:
-// the array is cleared. What is looked up is the stretch of bytes from `-` to `z`: if it is listed it is a name, and if not the scan decides.
-fn read_text(list: &NamesList, text: &[u8], entries: &mut [u8; 4096]) -> Result<usize, Refusal>
-    requires { (length text.now ≤ 65536) × Cleared entries.old }
-    ensures { Passed list.now.index.lines.names.now text.now entries.new result }
+// Reads the text, and adds the entries of its tree to none, or gives refusal 19 or 20.
+// What is looked up is the stretch of bytes from `-` to `z`: if it is listed it is a name, and if not the scan decides.
+fn read_text(list: &NamesList, text: &[u8], entries: &mut Entries) -> Result<(), Refusal>
+    requires short { length text.now ≤ 65536 }
+    requires cleared { Cleared entries.old.kept × (entries.old.count ≡ 0) }
+    ensures { Passed list.now.index.lines.names.now text.now entries.new.kept (counted entries.new.count result) }
 {
-    let mut at = 0;
     let mut depth = 0;
     let mut i = 0;
     loop {
@@ -96,11 +123,14 @@ fn read_text(list: &NamesList, text: &[u8], entries: &mut [u8; 4096]) -> Result<
             scan_text(text)?;
             return Err(Refusal::new(Kind::UnlistedName, i));
         };
-        put_symbol(entries, at, (k + 1) as u8);
+        entries.push((k + 1) as u8);
         match after_name(text, end, depth)? {
-            After::Ends { bars } => return Ok(at + 1 + bars),
+            After::Ends { bars } => {
+                entries.count += bars;
+                return Ok(());
+            }
             After::Name { place, open, bars } => {
-                at += 1 + bars;
+                entries.count += bars;
                 depth = open;
                 i = place;
             }
@@ -118,21 +148,6 @@ fn put_front(entries: &[u8; 4096], count: usize, tree: &mut [u16])
     }
 }
 
-// Puts the entries at the front of the list, where they are not too many and there is room.
-fn put_tree(entries: &[u8; 4096], needed: usize, tree: &mut [u16]) -> Answer
-    requires { length entries.now ≡ 4096 }
-    ensures { Gave (fits_in 4096 needed (length tree.old)) (take needed entries.now) tree.old tree.new result }
-{
-    if 4096 < needed {
-        return Err(Refusal::new(Kind::TermTreeTooLong, 0));
-    }
-    if tree.len() < needed {
-        return Err(Refusal::new(Kind::ShortTermTree, needed));
-    }
-    put_front(entries, needed, tree);
-    Ok(needed as u64)
-}
-
 // Reads a text by a names list that keeps to the rules.
 fn read_named(list: &NamesList, text: &[u8], tree: &mut [u16]) -> Answer
     ensures { ReadBy (read_named 4096) list.now.index.lines.names.now text.now tree.old tree.new result }
@@ -140,9 +155,12 @@ fn read_named(list: &NamesList, text: &[u8], tree: &mut [u16]) -> Answer
     if 65536 < text.len() {
         return Err(Refusal::new(Kind::TextTooLong, 0));
     }
-    let mut entries = [0u8; 4096];
-    let needed = read_text(list, text, &mut entries)?;
-    put_tree(&entries, needed, tree)
+    let mut entries = Entries {
+        kept: [0; 4096],
+        count: 0,
+    };
+    read_text(list, text, &mut entries)?;
+    entries.put_into(tree)
 }
 
 // Reads a term: gives the count of the tree's entries, which then stand at the front of the list.

@@ -1,5 +1,6 @@
+use Prim.Native.Nat.{◌+◌}
 use native.Mathlib.Omega.{arith}
-use mathlib.Core.Path.{sym, ap, ◌∙◌}
+use mathlib.Core.Path.{◌≡◌, sym, ap, ◌∙◌}
 use lib.ListN.{drop}
 use Rattle.std.specs.Prelude.{Ok}
 use Rattle.std.proofs.lemmas.Result.{err_from_is_err_and}
@@ -13,7 +14,7 @@ use Rattle.term.proofs.Going.{go_first, go_unlisted, name_there, line_below, go_
 use Rattle.term.proofs.read_text.Goals as goal
 
 pub loop-k-init : goal.loop-k-init
-loop-k-init c = go_first _ _ _ c.requires.0 c.requires.1
+loop-k-init c = rw c.requires.cleared.1 (go_first _ _ _ c.requires.short c.requires.cleared.0)
 
 pub find-requires-clause-hashed : goal.find-requires-clause-hashed
 find-requires-clause-hashed c =
@@ -56,8 +57,11 @@ returns-in_err-bars c =
 pub returns-in-Ends : goal.returns-in-Ends
 returns-in-Ends c =
     let z = c.after_name.ensures.ends _ (c.in_ok-bars.was ∙ ap Ok c.in-Ends.is) in
-    go_taken (name_there c.loop-k.invariant c.args.list.now.index.indexed c.args.list.now.whole c.stretch_at-stretch.ensures (sym c.find.ensures ∙ c.in-Some.is)) _ c.put_symbol.ensures _ z.0 z.1
+    rw c.push.ensures.count
+    (go_taken (name_there c.loop-k.invariant c.args.list.now.index.indexed c.args.list.now.whole c.stretch_at-stretch.ensures (sym c.find.ensures ∙ c.in-Some.is)) _ c.push.ensures.kept _ z.0 z.1)
 
 pub loop-k-preserved : goal.loop-k-preserved
 loop-k-preserved c =
-    go_name (name_there c.loop-k.invariant c.args.list.now.index.indexed c.args.list.now.whole c.stretch_at-stretch.ensures (sym c.find.ensures ∙ c.in-Some.is)) _ c.put_symbol.ensures _ _ _ (c.after_name.ensures.name _ _ _ (c.in_ok-bars.was ∙ ap Ok c.in-Name.is))
+    let z : c.loop-k.entries.count + 1 + c.in-Name.bars ≡ c.loop-k.entries.count + (1 + c.in-Name.bars) = omega arith in
+    rw (c.push.ensures.count, z)
+    (go_name (name_there c.loop-k.invariant c.args.list.now.index.indexed c.args.list.now.whole c.stretch_at-stretch.ensures (sym c.find.ensures ∙ c.in-Some.is)) _ c.push.ensures.kept _ _ _ (c.after_name.ensures.name _ _ _ (c.in_ok-bars.was ∙ ap Ok c.in-Name.is)))
