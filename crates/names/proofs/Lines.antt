@@ -9,7 +9,7 @@ use native.Mathlib.Nat.{pos_of_ne-zero}
 use lib.ListN.{length, get_or, set, take, drop, length-append, length-drop, length-set, drop_of_length-le, replicate, length-replicate, get_or-replicate}
 use lib.Seq.{drop-drop, drop_at, take_at, drop-cons, get_or-drop, get_or-set_same, get_or-set_other}
 use lib.Dec.{eqb, ltb, leb}
-use borrow.Author.Tests.{eqb-true, ltb-true, lt-ltb, le-ltb, ltb-false, le-leb, lt-leb, eq-eqb, ne_eqb}
+use borrow.Author.Tests.{eqb-true, eqb-false, ltb-true, lt-ltb, le-ltb, ltb-false, le-leb, lt-leb, eq-eqb, ne_eqb}
 use Rattle.model.specs.Answers.{Outcome, refused, refused_by}
 use Rattle.model.specs.Choice.{any_below}
 use Rattle.model.specs.Names.{is_letter, all_name_bytes, is_name, alike, same_name, Line, joined, lines_of, no_line, line_at, how_many_names, line_with, symbol_of, is_listed, line_ground, names_then}
@@ -103,7 +103,7 @@ module _ (names : List ℕ) (at end : ℕ) (l : end ≡ at + length (stretch (dr
   end_byte = ap (λ (i : ℕ). is_inner (get_or names i 0)) l ∙ sym (ap (λ (x : ℕ). is_inner x) (get_or-drop at names (length (stretch (drop at names))) 0)) ∙ (stretch_split (drop at names)).1
 
   -- at the list's end
-  pub end_open : end ≡ length names → None ≡ name_end names at
+  end_open : end ≡ length names → None ≡ name_end names at
   unfolding name_end
   end_open e =
       let r : drop at names ≡ stretch (drop at names) = rest_is ∙ ap (λ (x : List ℕ). stretch (drop at names) ++ x) (drop_of_length-le names {i = end} (omega arith)) ∙ append-nil (stretch (drop at names)) in
@@ -111,7 +111,7 @@ module _ (names : List ℕ) (at end : ℕ) (l : end ≡ at + length (stretch (dr
       rw (f, and-false)
 
   -- before another byte than 10
-  pub end_bad : end < length names → (get_or names end 0 ≡ 10 → ⊥) → None ≡ name_end names at
+  end_bad : end < length names → (get_or names end 0 ≡ 10 → ⊥) → None ≡ name_end names at
   unfolding name_end
   end_bad m ne =
       let r : drop at names ≡ stretch (drop at names) ++ get_or names end 0 ∷ drop (suc end) names = rest_is ∙ ap (λ (x : List ℕ). stretch (drop at names) ++ x) (drop-cons names end 0 m) in
@@ -120,6 +120,14 @@ module _ (names : List ℕ) (at end : ℕ) (l : end ≡ at + length (stretch (dr
       ∙ first_bad (stretch (drop at names)) (get_or names end 0) (drop (suc end) names) (stretch_inner (drop at names)) end_byte (ne_eqb (get_or names end 0) 10 ne) in
       let g : is_name (line_at (drop at names) 0).bytes ≡ false = is_false (is_name (line_at (drop at names) 0).bytes) (λ h. not_both (all_name_bytes (line_at (drop at names) 0).bytes) (name_bytes_lem (line_at (drop at names) 0).bytes h) f) in
       rw g
+
+  -- by what was found of the byte there
+  pub end_other : end ≤ length names → ltb end (length names) && eqb (get_or names end 0) 10 ≡ false → None ≡ name_end names at
+  end_other m e = go (ltb end (length names)) refl e
+    where
+      go : (t : Bool) → ltb end (length names) ≡ t → t && eqb (get_or names end 0) 10 ≡ false → None ≡ name_end names at
+      go true f g = end_bad (ltb-true end (length names) f) (eqb-false (get_or names end 0) 10 g)
+      go false f g = let k = ltb-false end (length names) f in end_open (omega arith)
 
   -- the part that is looked at
   pub part_stretch : take (end - at) (drop at names) ≡ stretch (drop at names)
@@ -130,8 +138,17 @@ module _ (names : List ℕ) (at end : ℕ) (l : end ≡ at + length (stretch (dr
       ap all_name_bytes part_stretch
       ∙ stretch_named (drop at names) (λ i k. rw (get_or-drop at names i 0) (o.at (at + i) (omega arith) (omega (arith, length-drop at names))))
 
+  pub ten_there : ltb end (length names) && eqb (get_or names end 0) 10 ≡ true → (end < length names) × (get_or names end 0 ≡ 10)
+  ten_there e = let p = and_true (ltb end (length names)) (eqb (get_or names end 0) 10) e in (ltb-true end (length names) p.0, eqb-true (get_or names end 0) 10 p.1)
+
   -- before byte 10
-  module _ (m : end < length names) (ten : get_or names end 0 ≡ 10) where
+  module _ (t : (end < length names) × (get_or names end 0 ≡ 10)) where
+    m : end < length names
+    m = t.0
+
+    ten : get_or names end 0 ≡ 10
+    ten = t.1
+
     line_is : line_at (drop at names) 0 ≡ record { bytes = stretch (drop at names); ended = true }
     line_is =
         let r : drop at names ≡ stretch (drop at names) ++ 10 ∷ drop (suc end) names =
@@ -145,18 +162,19 @@ module _ (names : List ℕ) (at end : ℕ) (l : end ≡ at + length (stretch (dr
     no_end_lem : is_name (stretch (drop at names)) ≡ false → None ≡ name_end names at
     no_end_lem f = sym (rw f at ended_by)
 
-    pub end_long : 24 < end - at → None ≡ name_end names at
-    end_long h = no_end_lem (is_false (is_name (stretch (drop at names))) (λ e. absurd (omega (arith, l, name_short (stretch (drop at names)) e))))
+    pub end_long : 24 < length (take (end - at) (drop at names)) → None ≡ name_end names at
+    end_long h = no_end_lem (is_false (is_name (stretch (drop at names))) (λ e. let p = ap length part_stretch in absurd (omega (arith, name_short (stretch (drop at names)) e))))
 
     pub end_unnamed : all_name_bytes (take (end - at) (drop at names)) ≡ false → None ≡ name_end names at
     end_unnamed h =
         no_end_lem (is_false (is_name (stretch (drop at names))) (λ e. not_both (all_name_bytes (stretch (drop at names))) (name_bytes_lem (stretch (drop at names)) e) (rw part_stretch at h)))
 
-    pub end_name : end - at ≤ 24 → all_name_bytes (take (end - at) (drop at names)) ≡ true → is_letter (get_or names at 0) ≡ true → Some end ≡ name_end names at
+    pub end_name : length (take (end - at) (drop at names)) ≤ 24 → all_name_bytes (take (end - at) (drop at names)) ≡ true → is_letter (get_or names at 0) ≡ true → Some end ≡ name_end names at
     end_name h a e =
         let q = stretch_more names at (omega (arith, l)) (byte_inner (get_or names at 0) (letter_byte (get_or names at 0) e)) in
         let c = byte_others (get_or names at 0) (stretch (drop (at + 1) names)) (rw q at (rw part_stretch at a)) in
         let n = ap length q in
+        let o = ap length part_stretch in
         let f : is_name (stretch (drop at names)) ≡ true =
         ap (λ (x : List ℕ). is_name x) q ∙ name_made (get_or names at 0) (stretch (drop (at + 1) names)) e c (omega (arith, n, l)) in
         sym (rw f at ended_by)

@@ -1,10 +1,13 @@
 -- Names taken by words of eight bytes: compared, found the end of, and hashed. Assumes nothing.
 use Rattle.std.specs.Prelude.{if◌then◌else◌}
-use Rattle.std.specs.List.{list_all}
+use Rattle.std.specs.List.{list_all, zip}
+use Rattle.std.specs.Int.{w64, from_le_bytes}
+use Rattle.std.specs.Simd.{first_chunks}
 use Prim.Native.Nat.{ℕ, zero, suc, ◌+◌, ◌-◌, ◌*◌, ◌/◌, ◌%◌, ◌^◌, ◌<◌, ◌≤◌}
 use mathlib.Core.Path.{◌≡◌, refl, sym, ap, ap₂, ◌∙◌}
 use mathlib.Core.Bool.{Bool, true, false, ◌&&◌}
 use mathlib.Core.List.{List, [], ◌∷◌, ◌++◌, map, map-append}
+use native.Mathlib.Nat.{mul-suc}
 use native.Mathlib.Omega.{arith}
 use lib.Arith.{digits_div, digits_mod}
 use lib.Bits.{bit_or, or_block, or_mod, or_add_and, and_le_l, and_le_r}
@@ -17,7 +20,7 @@ use Rattle.model.specs.Names.{all_name_bytes, alike, same_name}
 use Rattle.model.proofs.Bytes.{byte_others}
 use Rattle.model.proofs.Choice.{and_true}
 use Rattle.words.specs.Words.{words_alike, packed, Word, lanes, is_inner, inner_ahead, is_list_byte, foreign}
-use Rattle.words.proofs.Reading.{Bytes, others, taken, dropped, packed_front}
+use Rattle.words.proofs.Reading.{Bytes, others, taken, dropped, packed_front, eight_packed}
 use Rattle.words.proofs.Alike.{words_list}
 use Rattle.names.specs.NamesIndex.{caseless, all_inner, stretch, OnlyListBytes, front_of, mixed, mix_words, bucket_at, hash_of}
 use Rattle.names.proofs.Bytes.{inner_others, stretch_split}
@@ -39,6 +42,10 @@ eight_long i xs l = length-take-le 8 (drop i xs) (rw (length-drop i xs) (omega a
 
 -- ---- two names, in two parts
 
+and_assoc : (a b c : Bool) → a && (b && c) ≡ (a && b) && c
+and_assoc true b c = refl
+and_assoc false b c = refl
+
 same_split : (m : ℕ) (xs ys : List ℕ) → length xs ≡ length ys → same_name xs ys ≡ same_name (take m xs) (take m ys) && same_name (drop m xs) (drop m ys)
 unfolding same_by
 same_split zero xs ys e = refl
@@ -46,19 +53,48 @@ same_split (suc m) [] [] e = refl
 same_split (suc m) [] (y ∷ ys) e = absurd (omega arith)
 same_split (suc m) (x ∷ xs) [] e = absurd (omega arith)
 same_split (suc m) (x ∷ xs) (y ∷ ys) e =
-    ap (λ (t : Bool). alike x y && t) (same_split m xs ys (omega arith)) ∙ assoc (alike x y) (same_name (take m xs) (take m ys)) (same_name (drop m xs) (drop m ys))
-  where
-    assoc : (a b c : Bool) → a && (b && c) ≡ (a && b) && c
-    assoc true b c = refl
-    assoc false b c = refl
+    ap (λ (t : Bool). alike x y && t) (same_split m xs ys (omega arith)) ∙ and_assoc (alike x y) (same_name (take m xs) (take m ys)) (same_name (drop m xs) (drop m ys))
 
--- the loop that compares two names: the words at i were found to be alike, or not
-pub compare_word : (a b : List ℕ) (i x y : ℕ) (t : Bool) → Bytes a → Bytes b → length a ≡ length b → i + 8 ≤ length a → Word 8 i a x → Word 8 i b y
-    → words_alike x y ≡ t → same_name (drop i a) (drop i b) ≡ t && same_name (drop (i + 8) a) (drop (i + 8) b)
-compare_word a b i x y t p q e l v w f =
-    same_split 8 (drop i a) (drop i b) (rw (length-drop i a, length-drop i b, e))
-    ∙ (λ j. (sym (words_list (take 8 (drop i a)) (take 8 (drop i b)) (taken 8 (drop i a) (dropped i a p)) (taken 8 (drop i b) (dropped i b q)) (eight_long i a l) (eight_long i b (omega arith)))
-    ∙ ap₂ words_alike (sym v.is) (sym w.is) ∙ f) j && same_name (drop-drop 8 i a j) (drop-drop 8 i b j))
+-- two chunks of eight bytes, as words
+abbrev pub alike_chunks : List ℕ × List ℕ → Bool
+alike_chunks p = words_alike (from_le_bytes w64 p.0) (from_le_bytes w64 p.1)
+
+chunks_same : (a b : List ℕ) → Bytes a → Bytes b → length a ≡ 8 → length b ≡ 8 → alike_chunks (a, b) ≡ same_name a b
+chunks_same a b p q e f = ap₂ words_alike (eight_packed a p e) (eight_packed b q f) ∙ words_list a b p q e f
+
+-- k chunks, and the rest
+pub words_same : (k : ℕ) (a b : List ℕ) → Bytes a → Bytes b → length a ≡ length b → k * 8 ≤ length a
+    → list_all alike_chunks (zip (first_chunks 8 k a) (first_chunks 8 k b)) && same_name (drop (k * 8) a) (drop (k * 8) b) ≡ same_name a b
+words_same zero a b p q e l = refl
+words_same (suc k) a b p q e l =
+    let n : 8 + k * 8 ≡ suc k * 8 = omega arith in
+    let long : length (take 8 a) ≡ 8 = length-take-le 8 a (omega arith) in
+    let long' : length (take 8 b) ≡ 8 = length-take-le 8 b (omega arith) in
+    let far : (xs : List ℕ) → drop (k * 8) (drop 8 xs) ≡ drop (suc k * 8) xs = λ xs. drop-drop (k * 8) 8 xs ∙ ap (λ (j : ℕ). drop j xs) n in
+    let rest : Bool = list_all alike_chunks (zip (first_chunks 8 k (drop 8 a)) (first_chunks 8 k (drop 8 b))) in
+    let others : rest && same_name (drop (suc k * 8) a) (drop (suc k * 8) b) ≡ same_name (drop 8 a) (drop 8 b) =
+    sym (λ i. rest && same_name (far a i) (far b i))
+    ∙ words_same k (drop 8 a) (drop 8 b) (dropped 8 a p) (dropped 8 b q) (omega (arith, length-drop 8 a, length-drop 8 b)) (omega (arith, length-drop 8 a)) in
+    sym (and_assoc (alike_chunks (take 8 a, take 8 b)) rest (same_name (drop (suc k * 8) a) (drop (suc k * 8) b)))
+    ∙ (λ i. chunks_same (take 8 a) (take 8 b) (taken 8 a p) (taken 8 b q) long long' i && others i)
+    ∙ sym (same_split 8 a b e)
+
+-- by what the chunks were found to be, and the rests
+pub parts_same : (a b x y : List ℕ) (c d : List (List ℕ)) (t r : Bool) → Bytes a → Bytes b → length a ≡ length b → c ≡ first_chunks 8 (length a / 8) a → d ≡ first_chunks 8 (length b / 8) b
+    → x ≡ drop (length a / 8 * 8) a → y ≡ drop (length b / 8 * 8) b → t ≡ list_all alike_chunks (zip c d) → r ≡ t && same_name x y → r ≡ same_name a b
+parts_same a b x y c d t r p q e f g h k u v =
+    let w = ap (λ (n : ℕ). n / 8) (sym e) in
+    v ∙ ap₂ (λ (s : Bool) (z : List ℕ). s && same_name z y) u h
+    ∙ (λ i. list_all alike_chunks (zip (f i) (g i)) && same_name (drop (length a / 8 * 8) a) (k i))
+    ∙ ap (λ (n : ℕ). list_all alike_chunks (zip (first_chunks 8 (length a / 8) a) (first_chunks 8 n b)) && same_name (drop (length a / 8 * 8) a) (drop (n * 8) b)) w
+    ∙ words_same (length a / 8) a b p q e (omega arith)
+
+-- a chunk
+pub chunk_at : (n k i : ℕ) (xs : List ℕ) → i < k → get_or (first_chunks n k xs) i [] ≡ take n (drop (n * i) xs)
+chunk_at n zero i xs l = absurd (omega arith)
+chunk_at n (suc k) zero xs l = let z : n * 0 ≡ 0 = omega arith in ap (λ (j : ℕ). take n (drop j xs)) (sym z)
+chunk_at n (suc k) (suc i) xs l =
+    chunk_at n k i (drop n xs) (omega arith) ∙ ap (take n) (drop-drop (n * i) n xs) ∙ ap (λ (j : ℕ). take n (drop j xs)) (let z : n + n * i ≡ n * suc i = omega (arith, mul-suc n i) in z)
 
 -- ---- the stretch, by words
 
@@ -241,7 +277,7 @@ unmarked (suc m) (x ∷ xs) p e z i l = go (is_list_byte x) refl here (unmarked 
     go false f z r i l = absurd (omega arith)
 
 -- the loop that looks at eight bytes at once: so far no mark, and none in the word at i
-pub eight_listed : (names : List ℕ) (i w : ℕ) → Bytes names → i + 8 ≤ length names → Word 8 i names w → lanes foreign 8 w ≡ 0
+pub eight_listed : (names : List ℕ) (i w : ℕ) → Bytes names → i + 8 ≤ length names → w ≡ from_le_bytes w64 (take 8 (drop i names)) → lanes foreign 8 w ≡ 0
     → ((k : ℕ) → k < i → is_list_byte (get_or names k 0) ≡ true) → (k : ℕ) → k < i + 8 → is_list_byte (get_or names k 0) ≡ true
 eight_listed names i w p l v z h k m = go (ltb k i) refl
   where
@@ -249,7 +285,9 @@ eight_listed names i w p l v z h k m = go (ltb k i) refl
     go true e = h k (ltb-true k i e)
     go false e =
         let ge = ltb-false k i e in
-        let q = unmarked 8 (take 8 (drop i names)) (taken 8 (drop i names) (dropped i names p)) (eight_long i names l) (ap (lanes foreign 8) (sym v.is) ∙ z) (k - i) (omega arith) in
+        let small = taken 8 (drop i names) (dropped i names p) in
+        let long = eight_long i names l in
+        let q = unmarked 8 (take 8 (drop i names)) small long (ap (lanes foreign 8) (sym (v ∙ eight_packed (take 8 (drop i names)) small long)) ∙ z) (k - i) (omega arith) in
         let s : i + (k - i) ≡ k = omega arith in
         rw (get_or-take 8 (drop i names) (k - i) 0 (omega arith), get_or-drop i names (k - i) 0, s) at q
 

@@ -90,6 +90,11 @@ pub record NamesIndexed (seed : ℕ) (names starts heads next : List ℕ) (n : �
   pub chains : Chains (bucket_of seed names) 512 256 n heads next
   pub apart : (j k : ℕ) → j < k → k < n → same_name (line_at names j).bytes (line_at names k).bytes ≡ false
 
+-- the link is within the links, and each link that it leads to is lower: so a walk along them ends
+pub record Falling (links : List ℕ) (link : ℕ) : Type 0 where
+  pub inside : link ≤ 256
+  pub lower : (k : ℕ) → k < link → get_or links k 0 ≤ k
+
 -- the first line begins at the front
 pub record Started (starts : List ℕ) : Type 0 where
   pub long : length starts ≡ 256

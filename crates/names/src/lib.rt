@@ -1,13 +1,13 @@
 // Names lists: refusal 17, and the line with a name.
 #![tactic(auto)]
 
-ghost use Rattle.std.specs.Prelude.{◌≡◌, true, ◌+◌, ◌<◌, ◌≤◌, length, drop, IfOk};
+ghost use Rattle.std.specs.Prelude.{◌≡◌, true, ◌+◌, ◌<◌, ◌≤◌, length, slice_index, drop, IfOk};
 ghost use Rattle.std.proofs.Props.{props};
 ghost use Rattle.model.specs.Answers.{Outcome};
 ghost use Rattle.model.specs.Names.{is_letter, is_name_byte, all_name_bytes, same_name, line_at, how_many_names, names_then};
 ghost use Rattle.chains.specs.Chains.{Clear};
 ghost use Rattle.words.specs.Words.{is_list_byte};
-ghost use Rattle.names.specs.NamesIndex.{caseless, all_inner, stretch, front_of, mixed, bucket_at, hash_of, StretchFrom, OnlyListBytes, name_end, name_found, Lined, NamesIndexed, Started, names_check_then, NamesAnswer};
+ghost use Rattle.names.specs.NamesIndex.{caseless, all_inner, stretch, front_of, mixed, bucket_at, hash_of, StretchFrom, OnlyListBytes, name_end, name_found, Lined, NamesIndexed, Falling, Started, names_check_then, NamesAnswer};
 
 use chains::mixed;
 use model::{Kind, Refusal};
@@ -21,6 +21,7 @@ pub struct Stretch {
 }
 
 // An ASCII letter.
+#[tactic(auto, unfolding(model::specs::Names::is_letter))]
 pub fn is_letter(b: u8) -> bool
     ensures { result ≡ is_letter b }
 {
@@ -28,10 +29,11 @@ pub fn is_letter(b: u8) -> bool
 }
 
 // A byte that may stand in a name: a letter, a digit, `-` or `_`.
+#[tactic(auto, unfolding(model::specs::Names::is_letter, model::specs::Names::is_name_byte))]
 pub fn is_name_byte(b: u8) -> bool
     ensures { result ≡ is_name_byte b }
 {
-    is_letter(b) || b.is_ascii_digit() || b == b'-' || b == b'_'
+    matches!(b, b'-' | b'_') || b.is_ascii_alphanumeric()
 }
 
 // A byte with the bit set by which a small letter differs from the capital one.
@@ -61,13 +63,13 @@ fn same_name(a: &[u8], b: &[u8]) -> bool
     if a.len() != b.len() {
         return false;
     }
-    let words = a.len() / 8;
-    for k in 0..words {
-        if !words_alike(word_at::<8>(a, 8 * k), word_at::<8>(b, 8 * k)) {
-            return false;
-        }
-    }
-    same_rest(&a[8 * words..], &b[8 * words..])
+    let (a_words, a_rest) = a.as_chunks::<8>();
+    let (b_words, b_rest) = b.as_chunks::<8>();
+    let same_words = a_words.iter().zip(b_words).all(|(x, y)| words_alike(
+        u64::from_le_bytes(*x),
+        u64::from_le_bytes(*y),
+    ));
+    same_words && same_rest(a_rest, b_rest)
 }
 
 // Whether all bytes are name bytes.
@@ -91,12 +93,12 @@ fn only_list_bytes(names: &[u8]) -> bool
     if 6375 < names.len() {
         return false;
     }
-    let words = names.len() / 8;
+    let (words, rest) = names.as_chunks::<8>();
     let mut marks = 0;
-    for k in 0..words {
-        marks |= foreign_bytes(word_at::<8>(names, 8 * k));
+    for word in words {
+        marks |= foreign_bytes(u64::from_le_bytes(*word));
     }
-    marks == 0 && names[8 * words..].iter().all(|b| is_list_byte(*b))
+    marks == 0 && rest.iter().all(|b| is_list_byte(*b))
 }
 
 // One word more in a hash.
@@ -116,14 +118,12 @@ fn bucket(h: u64) -> usize
 // A seed for the hash, from the list's bytes, sixteen at a time, up to the 6,368th. No answer depends on it; names that share a bucket by one seed
 // do not by another.
 pub fn list_seed(names: &[u8]) -> u64 {
+    let (pairs, _) = names[..names.len().min(6368)].as_chunks::<16>();
     let mut seed = 0;
-    for i in (0..6368).step_by(16) {
-        if names.len() < i + 16 {
-            break;
-        }
+    for (i, pair) in pairs.iter().enumerate() {
         seed = mix(
-            seed ^ mix(i as u64, word_at::<8>(names, i + 8)),
-            word_at::<8>(names, i),
+            seed ^ mix(16 * i as u64, word_at::<8>(pair, 8)),
+            word_at::<8>(pair, 0),
         );
     }
     seed
@@ -159,38 +159,31 @@ pub fn stretch_at(bytes: &[u8], at: usize, seed: u64) -> Stretch
     }
 }
 
-// Whether all bytes are name bytes; where `clean` is true it is known.
-fn named(name: &[u8], clean: bool) -> bool
-    requires { clean ≡ true → all_name_bytes name.now ≡ true }
-    ensures { result ≡ all_name_bytes name.now }
-{
-    clean || all_name_bytes(name)
+// A names list; where `clean` is true, only bytes that may stand in one are known to stand in it.
+#[derive(Clone, Copy)]
+struct ListBytes<'a> {
+    bytes: &'a [u8],
+    clean: bool,
+    ghost known: { clean ≡ true → OnlyListBytes 0 bytes.now } by { Prim.hlevel props },
 }
 
-// Where the name of the line that begins at `at` ends, if the line is a name followed by byte 10; `end` is where the stretch from there ends, and
-// where `clean` is true only name bytes and byte 10 stand in the list.
-fn name_end(names: &[u8], clean: bool, at: usize, end: usize) -> Option<usize>
-    requires at_in_bounds { at < length names.now }
-    requires end_value { (end ≡ at + length (stretch (drop at names.now))) × (end ≤ length names.now) }
-    requires only_list_bytes { clean ≡ true → OnlyListBytes 0 names.now }
-    ensures { result ≡ name_end names.now at }
-{
-    if end == names.len() {
-        return None;
-    }
-    if names[end] != b'\n' {
-        return None;
-    }
-    if 24 < end - at {
-        return None;
-    }
-    if !named(&names[at..end], clean) {
-        return None;
-    }
-    if is_letter(names[at]) {
-        Some(end)
-    } else {
-        None
+impl<'a> ListBytes<'a> {
+    // Where the name of the line that begins at `at` ends, if the line is a name followed by byte 10; `end` is where the stretch from there ends.
+    fn name_end(&self, at: usize, end: usize) -> Option<usize>
+        requires at_in_bounds { at < length self.now.bytes.now }
+        requires end_value { (end ≡ at + length (stretch (drop at self.now.bytes.now))) × (end ≤ length self.now.bytes.now) }
+        ensures { result ≡ name_end self.now.bytes.now at }
+    {
+        let name = &self.bytes[at..end];
+        if self.bytes.get(end) == Some(&b'\n')
+            && name.len() <= 24
+            && is_letter(self.bytes[at])
+            && (self.clean || all_name_bytes(name))
+        {
+            Some(end)
+        } else {
+            None
+        }
     }
 }
 
@@ -226,20 +219,53 @@ pub struct NamesIndex<'a> {
     ghost indexed: { NamesIndexed seed lines.names.now lines.starts.now heads.now next.now lines.n } by { Prim.hlevel props },
 }
 
+// The lines of a bucket, the last first: `link` is 1 more than the next one's number, or 0 at their end.
+#[derive(Clone, Copy)]
+struct BucketLines<'a> {
+    links: &'a [u16; 256],
+    link: usize,
+    ghost falling: { Falling links.now link } by { Prim.hlevel props },
+}
+
+impl Iterator for BucketLines<'_> {
+    ghost use Rattle.names.specs.Walk.{lines_left, GivesLine};
+
+    type Item = usize;
+
+    ghost next_gives = { GivesLine };
+
+    ghost remaining = { lines_left };
+
+    fn next(&mut self) -> Option<usize> {
+        let k = self.link.checked_sub(1)?;
+        self.link = usize::from(self.links[k]);
+        Some(k)
+    }
+}
+
 impl<'a> NamesIndex<'a> {
+    // The lines whose names are in a bucket.
+    fn lines_in(&self, b: usize) -> BucketLines<'a>
+        requires { b < 512 }
+        ensures links { result.links.now ≡ self.now.next.now }
+        ensures link { result.link ≡ slice_index self.now.heads.now b }
+    {
+        BucketLines {
+            links: self.next,
+            link: usize::from(self.heads[b]),
+        }
+    }
+
     // The line whose name is equal to this; b is the name's bucket.
     pub fn find(&self, b: usize, name: &[u8]) -> Option<usize>
         requires hashed { (b ≡ hash_of self.now.seed name.now) × (b < 512) }
         requires name_value { all_inner name.now ≡ true }
         ensures { result ≡ name_found self.now.lines.names.now self.now.lines.n name.now }
     {
-        let mut p = usize::from(self.heads[b]);
-        while 0 < p {
-            let k = p - 1;
+        for k in self.lines_in(b) {
             if same_name(self.lines.name(k), name) {
                 return Some(k);
             }
-            p = usize::from(self.next[k]);
         }
         None
     }
@@ -284,7 +310,10 @@ impl NamesRoom {
             heads,
             next,
         } = self;
-        let clean = only_list_bytes(names);
+        let list = ListBytes {
+            bytes: names,
+            clean: only_list_bytes(names),
+        };
         // not a `for`: each line's end says where the next line begins
         let mut n = 0;
         let mut at = 0;
@@ -293,19 +322,15 @@ impl NamesRoom {
                 return Err(Refusal::new(Kind::FaultyNames, n));
             }
             let stretch = stretch_at(names, at, seed);
-            let Some(end) = name_end(names, clean, at, stretch.end) else {
+            let Some(end) = list.name_end(at, stretch.end) else {
                 return Err(Refusal::new(Kind::FaultyNames, n));
             };
             let b = stretch.bucket;
-            let lines = NameLines {
-                names,
-                starts: &*starts,
-                n,
-            };
+            let lines = NameLines { names, starts, n };
             let index = NamesIndex {
                 lines,
-                heads: &*heads,
-                next: &*next,
+                heads,
+                next,
                 seed,
             };
             if index.find(b, &names[at..end]).is_some() {

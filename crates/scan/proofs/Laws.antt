@@ -1,6 +1,6 @@
 -- The steps of the reading, and the bytes read so far. Assumes nothing.
 use Rattle.std.specs.Prelude.{if◌then◌else◌}
-use Prim.Native.Nat.{ℕ, zero, suc, ◌+◌, ◌-◌, ◌<◌, ◌≤◌}
+use Prim.Native.Nat.{ℕ, zero, suc, ◌+◌, ◌<◌, ◌≤◌}
 use mathlib.Core.Path.{◌≡◌, refl, sym, ap, ◌∙◌}
 use mathlib.Core.Bool.{Bool, true, false}
 use mathlib.Core.List.{List}
@@ -8,70 +8,22 @@ use native.Mathlib.Omega.{arith}
 use native.Mathlib.Numerals.{add-one}
 use lib.ListN.{length, get_or, drop, drop_of_length-le}
 use lib.Dec.{eqb, ltb}
-use borrow.Author.Tests.{lt-ltb, le-ltb, eq-eqb, ne_eqb}
 use Rattle.model.specs.Names.{is_letter, is_name_byte}
 use Rattle.model.specs.Term as term
 use Rattle.model.specs.Term.{after_term, may_end}
 use Rattle.model.proofs.Lists.{drop_next}
-use Rattle.std.specs.Prelude.{Some, None}
-use Rattle.scan.specs.TextState.{seen, depth_of, place_of, scanned}
+use Rattle.std.specs.Prelude.{Option, Some, None, Ok, Err}
+use Rattle.std.specs.Option.{ok_or}
+use Rattle.model.specs.declared.Kind.TheVariants.{NotATerm}
+use Rattle.model.specs.declared.Refusal.{Refusal}
+use Rattle.scan.specs.TextState.{seen, seen_step, depth_of, place_of, scanned, not_a_term_at}
 use Rattle.scan.specs.declared.TextState.{TextState}
-use Rattle.scan.specs.declared.TextState.TheVariants.{Due, InName, Closed}
+use Rattle.scan.specs.declared.TextState.TheVariants.{Due}
 
--- after a whole term
-pub after_comma_lem : (depth b : ℕ) → (depth ≡ 0 → ⊥) → b ≡ 44 → term.goes_on (term.due depth) ≡ after_term depth b
-after_comma_lem zero b ne e = absurd (ne refl)
-after_comma_lem (suc d) b ne e = rw (eq-eqb b 44 e)
-
-pub after_close : (depth b : ℕ) → (depth ≡ 0 → ⊥) → (b ≡ 44 → ⊥) → b ≡ 41 → term.goes_on (term.closed (depth - 1)) ≡ after_term depth b
-after_close zero b ne nc e = absurd (ne refl)
-after_close (suc d) b ne nc e = rw (ne_eqb b 44 nc, eq-eqb b 41 e) (ap (λ (x : ℕ). term.goes_on (term.closed x)) (let z : suc d - 1 ≡ d = omega arith in z))
-
-pub after_other : (depth b : ℕ) → (b ≡ 44 → ⊥) → (b ≡ 41 → ⊥) → term.stops ≡ after_term depth b
-after_other zero b nc ne = refl
-after_other (suc d) b nc ne = rw (ne_eqb b 44 nc, ne_eqb b 41 ne)
-
--- after bytes of a name
-pub name_more : (depth bytes b : ℕ) → is_name_byte b ≡ true → bytes < 24 → term.goes_on (term.in_name depth (bytes + 1)) ≡ term.step (term.in_name depth bytes) b
-unfolding term.step
-name_more depth bytes b e l = rw (e, lt-ltb bytes 24 l, add-one bytes)
-
-pub name_long : (depth bytes b : ℕ) → is_name_byte b ≡ true → 24 ≤ bytes → term.stops ≡ term.step (term.in_name depth bytes) b
-unfolding term.step
-name_long depth bytes b e l = rw (e, le-ltb bytes 24 l)
-
-pub name_opens : (depth bytes b : ℕ) → is_name_byte b ≡ false → b ≡ 40 → term.goes_on (term.due (depth + 1)) ≡ term.step (term.in_name depth bytes) b
-unfolding term.step
-name_opens depth bytes b e h = rw (e, eq-eqb b 40 h, add-one depth)
-
-pub name_ends : (depth bytes b : ℕ) → is_name_byte b ≡ false → (b ≡ 40 → ⊥) → after_term depth b ≡ term.step (term.in_name depth bytes) b
-unfolding term.step
-name_ends depth bytes b e h = rw (e, ne_eqb b 40 h)
-
--- the states of the code
-pub due_letter : (r : TextState) (d b : ℕ) → r ≡ Due d → is_letter b ≡ true → term.goes_on (term.in_name d 1) ≡ term.step (seen r) b
-unfolding term.step
-due_letter r d b e f = rw (e, f)
-
-pub due_other : (r : TextState) (d b : ℕ) → r ≡ Due d → is_letter b ≡ false → term.stops ≡ term.step (seen r) b
-unfolding term.step
-due_other r d b e f = rw (e, f)
-
-pub step_name : (r : TextState) (d k b : ℕ) (s : term.ScanStep) → r ≡ InName d k → s ≡ term.step (term.in_name d k) b → s ≡ term.step (seen r) b
-step_name r d k b s e f = rw e f
-
-pub step_closed : (r : TextState) (d b : ℕ) (s : term.ScanStep) → r ≡ Closed d → s ≡ after_term d b → s ≡ term.step (seen r) b
-unfolding term.step
-step_closed r d b s e f = rw e f
-
-pub end_name : (r : TextState) (d k : ℕ) → r ≡ InName d k → eqb d 0 ≡ may_end (seen r)
-end_name r d k e = rw e
-
-pub end_closed : (r : TextState) (d : ℕ) → r ≡ Closed d → eqb d 0 ≡ may_end (seen r)
-end_closed r d e = rw e
-
-pub depth_name : (r : TextState) (d k : ℕ) → r ≡ InName d k → depth_of (seen r) < 65536 → d < 65536
-depth_name r d k e l = rw e at l
+-- a bracket after bytes of a name
+pub name_opens : (depth bytes b : ℕ) → b ≡ 40 → term.goes_on (term.due (depth + 1)) ≡ term.step (term.in_name depth bytes) b
+unfolding term.step is_name_byte is_letter
+name_opens depth bytes b h = rw (h, add-one depth)
 
 -- a step opens at most one bracket
 after_deep : (d b : ℕ) (m : term.ScanState) → after_term d b ≡ term.goes_on m → depth_of m ≤ suc d
@@ -114,25 +66,39 @@ module _ {text : List ℕ} {r : TextState} {i : ℕ} (x : Read text r i) (l : i 
   unfolding term.scan
   here = rw (drop_next text i l) at x.same
 
-  pub goes : (n : TextState) → term.goes_on (seen n) ≡ term.step (seen r) (get_or text i 0) → Read text n (i + 1)
+  goes : (n : TextState) → term.goes_on (seen n) ≡ term.step (seen r) (get_or text i 0) → Read text n (i + 1)
   goes n e = record {
     within = omega arith;
     shallow = omega (arith, step_deep (seen r) (seen n) (get_or text i 0) (sym e), x.shallow);
     same = ap (λ (j : ℕ). term.scan (seen n) j (drop (i + 1) text)) (add-one i) ∙ (rw (sym e) at here);
   }
 
-  pub stops_here : term.stops ≡ term.step (seen r) (get_or text i 0) → Some i ≡ place_of (scanned text)
-  stops_here e = ap (λ (s : term.Scan). place_of s) (rw (sym e) at here)
+  -- by what the step gave
+  module _ (o : Option TextState) (f : Refusal) (s : seen_step o ≡ term.step (seen r) (get_or text i 0)) where
+    pub goes_on_lem : (n : TextState) → ok_or o f ≡ Ok n → Read text n (i + 1)
+    goes_on_lem n e = goes n (sym (ap seen_step (some_of o e)) ∙ s)
+      where
+        some_of : (p : Option TextState) → ok_or p f ≡ Ok n → p ≡ Some n
+        some_of None h = cc
+        some_of (Some m) h = cc
 
+    pub stops_here : f ≡ record { place = i; kind = NotATerm } → (e : Refusal) → ok_or o f ≡ Err e → Err e ≡ not_a_term_at (place_of (scanned text))
+    stops_here g e h = go o h s
+      where
+        go : (p : Option TextState) → ok_or p f ≡ Err e → seen_step p ≡ term.step (seen r) (get_or text i 0) → Err e ≡ not_a_term_at (place_of (scanned text))
+        go None k t = let q : e ≡ f = cc in ap Err (q ∙ g) ∙ ap (λ (u : term.Scan). not_a_term_at (place_of u)) (rw (sym t) at here)
+        go (Some n) k t = let z : ◌≡◌ {A = ℕ} 0 1 = cc in absurd (omega arith)
+
+-- at the end
 module _ {text : List ℕ} {r : TextState} {i : ℕ} (x : Read text r i) (ge : length text ≤ i) where
   at_end : (if may_end (seen r) then term.passes else term.breaks_at i) ≡ scanned text
   unfolding term.scan
   at_end = rw (drop_of_length-le text {i = i} ge) at x.same
 
-  pub is_term : may_end (seen r) ≡ true → None ≡ place_of (scanned text)
-  is_term e = ap (λ (s : term.Scan). place_of s) (rw e at at_end)
+  pub is_term : may_end (seen r) ≡ true → Ok tt ≡ not_a_term_at (place_of (scanned text))
+  is_term e = ap (λ (s : term.Scan). not_a_term_at (place_of s)) (rw e at at_end)
 
-  pub too_soon : may_end (seen r) ≡ false → Some (length text) ≡ place_of (scanned text)
-  too_soon e =
+  pub too_soon : may_end (seen r) ≡ false → (f : Refusal) → f ≡ record { place = length text; kind = NotATerm } → Err f ≡ not_a_term_at (place_of (scanned text))
+  too_soon e f g =
       let l : length text ≡ i = omega (arith, x.within) in
-      ap (λ (k : ℕ). place_of (term.breaks_at k)) l ∙ ap (λ (s : term.Scan). place_of s) (rw e at at_end)
+      ap Err g ∙ ap (λ (k : ℕ). not_a_term_at (place_of (term.breaks_at k))) l ∙ ap (λ (s : term.Scan). not_a_term_at (place_of s)) (rw e at at_end)

@@ -1,6 +1,8 @@
 -- The states in which the code reads a text, as document 01's definitions have them. Assumes nothing: these are definitions.
-use Rattle.std.specs.Prelude.{ℕ, List, Option, Some, None}
+use Rattle.std.specs.Prelude.{ℕ, List, Option, Some, None, Result, Ok, Err}
 use Rattle.model.specs.Term as term
+use Rattle.model.specs.declared.Kind.TheVariants.{NotATerm}
+use Rattle.model.specs.declared.Refusal.{Refusal}
 use Rattle.scan.specs.declared.TextState.{TextState}
 use Rattle.scan.specs.declared.TextState.TheVariants.{Due, InName, Closed}
 
@@ -24,6 +26,11 @@ depth_of (term.closed depth) = depth
 abbrev pub place_of : term.Scan → Option ℕ
 place_of term.passes = None
 place_of (term.breaks_at place) = Some place
+
+-- refusal 19, if there is such a place
+abbrev pub not_a_term_at : Option ℕ → Result (Unit {0}) Refusal
+not_a_term_at None = Ok tt
+not_a_term_at (Some place) = Err (record { place = place; kind = NotATerm })
 
 -- the whole text is read
 abbrev pub scanned : List ℕ → term.Scan

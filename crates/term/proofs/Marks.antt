@@ -2,11 +2,14 @@
 use Rattle.std.specs.Prelude.{if◌then◌else◌, Result, Ok, Err}
 use Prim.Native.Nat.{ℕ, zero, suc, ◌+◌, ◌-◌, ◌<◌, ◌≤◌}
 use mathlib.Core.Path.{◌≡◌, refl, sym, ap, ◌∙◌}
-use mathlib.Core.Bool.{Bool, true, false, not}
+use mathlib.Core.Bool.{Bool, true, false, not, cond}
 use mathlib.Core.List.{List, [], ◌∷◌, ◌++◌}
 use native.Mathlib.Omega.{arith}
 use native.Mathlib.Numerals.{add-one}
-use lib.ListN.{length, get_or, drop, replicate, drop_of_length-le, get_or-eq_default}
+use lib.ListN.{length, get_or, take, drop, replicate, length-drop, drop_of_length-le, get_or-eq_default}
+use lib.Seq.{take_all, get_or-drop}
+use Rattle.std.specs.List.{prefix_len}
+use Rattle.std.proofs.lemmas.List.Folds.{length-prefix_len}
 use lib.Dec.{eqb, ltb}
 use borrow.Author.Tests.{eqb-true, eq-eqb, ne_eqb, eqb-false, ltb-true, ltb-false}
 use Rattle.model.specs.Names.{is_name_byte}
@@ -82,31 +85,45 @@ closed_entries (suc c) names text at w m =
     ∙ ap (λ (b : Bool). (if b then 0 ∷ [] else []) ++ emitted names false (drop (at + 1) text)) (eq-eqb (get_or text at 0) 41 e)
     ∙ ap (λ (x : List ℕ). 0 ∷ x) (closed_entries c names text (at + 1) (omega arith) (λ j g l. m j (omega arith) (omega arith)) ∙ ap (λ (k : ℕ). replicate c 0 ++ emitted names false (drop k text)) z)
 
--- counting them
-pub record Counting (text : List ℕ) (at depth c : ℕ) : Type 0 where
-  pub few : c ≤ depth
-  pub within : at + c ≤ length text
-  pub marks : (j : ℕ) → at ≤ j → j < at + c → get_or text j 0 ≡ 41
+-- so many at the front of a list, no more than n
+record Front (xs : List ℕ) (n c : ℕ) : Type 0 where
+  few : c ≤ n
+  within : c ≤ length xs
+  marks : (j : ℕ) → j < c → get_or xs j 0 ≡ 41
+  stop : c < n → get_or xs c 0 ≡ 41 → ⊥
 
-pub count_first : (text : List ℕ) (at depth : ℕ) → at ≤ length text → Counting text at depth 0
-count_first text at depth l = record { few = omega arith; within = omega arith; marks = λ j g h. absurd (omega arith) }
+abbrev is_close : ℕ → Bool
+is_close b = eqb b 41
 
-module _ {text : List ℕ} {at depth c : ℕ} (x : Counting text at depth c) where
-  pub count_more : c < depth → at + c < length text → get_or text (at + c) 0 ≡ 41 → Counting text at depth (c + 1)
-  count_more l h e = record { few = omega arith; within = omega arith; marks = λ j g m. go j g m (eqb j (at + c)) refl }
-    where
-      go : (j : ℕ) → at ≤ j → j < at + (c + 1) → (t : Bool) → eqb j (at + c) ≡ t → get_or text j 0 ≡ 41
-      go j g m true d = rw (eqb-true j (at + c) d) e
-      go j g m false d = x.marks j g (let n = eqb-false j (at + c) d in omega arith)
+front_is : (n : ℕ) (xs : List ℕ) → Front xs n (prefix_len is_close (take n xs))
+front_is zero xs = record { few = omega arith; within = omega arith; marks = λ j l. absurd (omega arith); stop = λ l e. absurd (omega arith) }
+front_is (suc n) [] = record { few = omega arith; within = omega arith; marks = λ j l. absurd (omega arith); stop = λ l e. omega arith }
+front_is (suc n) (x ∷ xs) = go (is_close x) refl (front_is n xs)
+  where
+    go : (t : Bool) → is_close x ≡ t → Front xs n (prefix_len is_close (take n xs)) → Front (x ∷ xs) (suc n) (cond t (1 + prefix_len is_close (take n xs)) 0)
+    go true h f = record {
+      few = omega (arith, f.few);
+      within = omega (arith, f.within);
+      marks = elim [ zero ↦ λ l. eqb-true x 41 h | suc j ↦ λ l. f.marks j (omega arith) ];
+      stop = λ l e. f.stop (omega arith) (let z : 1 + prefix_len is_close (take n xs) ≡ suc (prefix_len is_close (take n xs)) = omega arith in rw z at e);
+    }
+    go false h f = record { few = omega arith; within = omega arith; marks = λ j l. absurd (omega arith); stop = λ l e. eqb-false x 41 h e }
 
-  pub count_out : length text ≤ at + c → Closing text at depth c
-  count_out g = record { few = x.few; within = x.within; marks = x.marks; stop = λ l e. let z = get_or-eq_default text 0 {n = at + c} g in absurd (omega arith) }
-
-  pub count_other : (get_or text (at + c) 0 ≡ 41 → ⊥) → Closing text at depth c
-  count_other n = record { few = x.few; within = x.within; marks = x.marks; stop = λ l e. n e }
-
-  pub count_all : depth ≤ c → Closing text at depth c
-  count_all g = record { few = x.few; within = x.within; marks = x.marks; stop = λ l e. absurd (omega arith) }
+-- so many of the first bytes from `at` on
+pub closing_is : (text : List ℕ) (at depth c : ℕ) → at ≤ length text
+    → c ≡ length (take (prefix_len (λ b. eqb b 41) (take depth (take (length text - at) (drop at text)))) (take depth (take (length text - at) (drop at text)))) → Closing text at depth c
+closing_is text at depth c l e =
+    let n = length-drop at text in
+    let all : take (length text - at) (drop at text) ≡ drop at text = take_all (length text - at) (drop at text) (omega arith) in
+    let ys : List ℕ = take depth (drop at text) in
+    let d : c ≡ prefix_len is_close ys = rw all at e ∙ length-prefix_len is_close ys in
+    let f = front_is depth (drop at text) in
+    rw d (record {
+      few = f.few;
+      within = omega (arith, f.within);
+      marks = λ j g h. let z : at + (j - at) ≡ j = omega arith in sym (ap (λ (k : ℕ). get_or text k 0) z) ∙ sym (get_or-drop at text (j - at) 0) ∙ f.marks (j - at) (omega arith);
+      stop = λ g h. f.stop g (get_or-drop at text (prefix_len is_close ys) 0 ∙ h);
+    })
 
 -- ---- what follows a name
 
@@ -231,6 +248,13 @@ module _ (text : List ℕ) (end depth : ℕ) (nb : is_name_byte (get_or text end
 
       pub shut_other : (depth ≡ c → ⊥) → (get_or text (end + c) 0 ≡ 44 → ⊥) → {e : Refusal} → refused_by e ≡ refused 19 (end + c) → Follows text end depth (Err e)
       shut_other d k t = follows_break t (λ m. shut_scans m ∙ stopped text (end + c) l (depth - c) (λ p h. x.stop (omega arith) h) (λ p h. k h))
+
+      pub shut_rest : (get_or text (end + c) 0 ≡ 44 → depth ≤ c) → (e' : Refusal) → refused_by e' ≡ refused 19 (end + c) → Follows text end depth (Err e')
+      shut_rest k e' t = go (eqb depth c) refl
+        where
+          go : (s : Bool) → eqb depth c ≡ s → Follows text end depth (Err e')
+          go true h = shut_over (eqb-true depth c h) t
+          go false h = let d = eqb-false depth c h in let f = x.few in shut_other d (λ g. d (let m = k g in omega arith)) t
 
       pub shut_comma : (depth ≡ c → ⊥) → get_or text (end + c) 0 ≡ 44 → Follows text end depth (Ok (Name (end + c + 1) (depth - c) (c + 1)))
       shut_comma d k =

@@ -14,6 +14,7 @@ use Rattle.model.specs.Names.{how_many_names, names_then}
 use Rattle.model.specs.Term.{Scan, passes, breaks_at}
 use Rattle.model.specs.Tree.{WellFormed}
 use Rattle.model.specs.TermOperations.{entries_of, bytes_of, fits_in, read_fits, read_named, symbol_ground, write_fits, write_formed, write_named, read_term_outcome, write_term_outcome, read_term_list, write_term_list}
+use Rattle.model.specs.declared.Kind.TheVariants.{NotATerm}
 use Rattle.model.specs.declared.Refusal.{Refusal}
 use Rattle.std.specs.List.{position, position_or_len}
 use Rattle.std.proofs.lemmas.List.Sums.{passes_at_first, fails_before_first}
@@ -21,8 +22,8 @@ use Rattle.model.proofs.Choice.{no_fault, fault_refused, is_false, not_both}
 use Rattle.tree.specs.Reading.{Decides}
 use Rattle.tree.proofs.Laws.{list_refused, list_taken}
 use Rattle.chains.specs.First.{first_with}
-use Rattle.chains.proofs.First.{first_is, first_at, none_first, first_none, apart}
-use Rattle.scan.specs.TextState.{place_of}
+use Rattle.chains.proofs.First.{first_is, first_at, none_first, first_none}
+use Rattle.scan.specs.TextState.{place_of, not_a_term_at}
 use Rattle.term.specs.Emit.{entries_text}
 use Rattle.term.specs.Pass.{unlisted_at, Cleared, pass_then, Passed}
 use Rattle.term.specs.Written.{Front, EntriesNamed, Gave, ReadTerm, WriteTerm}
@@ -52,13 +53,13 @@ pub fits_well : (needed room : ℕ) → needed ≤ 4096 → needed ≤ room → 
 fits_well needed room h l = rw (le-ltb 4096 needed h, le-ltb room needed l)
 
 -- 19 before 20
-pub unlisted_breaks : (s : Scan) (p place : ℕ) → Some p ≡ place_of s → refused 19 p ≡ unlisted_at s place
-unlisted_breaks passes p place e = apart p e
-unlisted_breaks (breaks_at q) p place e = let z : p ≡ q = cc in ap (refused 19) z
+pub unlisted_breaks : (s : Scan) (r : Result (Unit {0}) Refusal) (place : ℕ) → r ≡ not_a_term_at (place_of s) → (e : Refusal) → r ≡ Err e → refused_by e ≡ unlisted_at s place
+unlisted_breaks passes r place f e h = let z : ◌≡◌ {A = ℕ} 0 1 = cc in absurd (omega arith)
+unlisted_breaks (breaks_at q) r place f e h = let z : e ≡ record { place = q; kind = NotATerm } = cc in ap refused_by z
 
-pub unlisted_whole : (s : Scan) (place : ℕ) → None ≡ place_of s → refused 20 place ≡ unlisted_at s place
-unlisted_whole passes place e = refl
-unlisted_whole (breaks_at q) place e = apart q (sym e)
+pub unlisted_whole : (s : Scan) (r : Result (Unit {0}) Refusal) (place : ℕ) → r ≡ not_a_term_at (place_of s) → r ≡ Ok tt → refused 20 place ≡ unlisted_at s place
+unlisted_whole passes r place f h = refl
+unlisted_whole (breaks_at q) r place f h = let z : ◌≡◌ {A = ℕ} 0 1 = cc in absurd (omega arith)
 
 pub cleared : Cleared (replicate 4096 0)
 cleared = record { long = length-replicate {A = ℕ} 4096 0; none = λ k l. get_or-replicate {A = ℕ} 4096 k 0 0 l }
@@ -95,20 +96,16 @@ module _ {names text entries : List ℕ} {r : Result ℕ Refusal} (x : Passed na
 pub text_too_long : (names text : List ℕ) (room : ℕ) → 65536 < length text → refused 18 0 ≡ read_named 4096 names text room
 text_too_long names text room l = rw (lt-ltb 65536 (length text) l)
 
--- 17
-module _ {A : Type 0} (names : List ℕ) {r : Result A Refusal} (decided : (o : Outcome) → names_check_then r o ≡ names_then names o) where
-  pub faulty_names : (k : Refusal) (o : Outcome) → r ≡ Err k → refused_by k ≡ names_then names o
-  faulty_names k o e = rw e at (decided o)
+-- 17, and what follows where the names list keeps to the rules
+module _ {A : Type 0} (names : List ℕ) {r : Result A Refusal} (decided : (o : Outcome) → names_check_then r o ≡ names_then names o) (o : Outcome) {written old : List ℕ} where
+  pub gave_faulty : (k : Refusal) → r ≡ Err k → Gave (names_then names o) written old old (Err k)
+  gave_faulty k e = gave_refused _ _ refl (rw e at (decided o))
 
-  pub sound_names : (l : A) (o : Outcome) → r ≡ Ok l → o ≡ names_then names o
-  sound_names l o e = rw e at (decided o)
+  pub gave_sound : {new : List ℕ} {a : Result ℕ Refusal} (l : A) → r ≡ Ok l → Gave o written old new a → Gave (names_then names o) written old new a
+  gave_sound l e g = gave_same (rw e at (decided o)) g
 
-pub read_by : (names text : List ℕ) (room : ℕ) → names_then names (read_named 4096 names text room) ≡ read_term_outcome names text room
-unfolding read_term_outcome
-read_by names text room = refl
-
-pub read_told : {names text old new : List ℕ} {r : Result ℕ Refusal} → Gave (read_term_outcome names text (length old)) (entries_of names text) old new r → ReadTerm names text old new r
-unfolding read_term_list
+pub read_told : {names text old new : List ℕ} {r : Result ℕ Refusal} → Gave (names_then names (read_named 4096 names text (length old))) (entries_of names text) old new r → ReadTerm names text old new r
+unfolding read_term_outcome read_term_list
 read_told g = record { answer = g.answer; list = g.list }
 
 -- ---- writing
@@ -167,10 +164,6 @@ module _ {tree : List ℕ} {f : Result (Unit {0}) Refusal} (x : Decides tree f) 
   pub a_tree : f ≡ Ok tt → write_formed names tree room ≡ write_named names tree room
   a_tree e = list_taken x e (write_formed names tree room)
 
-pub write_by : (names tree : List ℕ) (room : ℕ) → names_then names (write_named names tree room) ≡ write_term_outcome names tree room
-unfolding write_term_outcome
-write_by names tree room = refl
-
-pub write_told : {names tree old new : List ℕ} {r : Result ℕ Refusal} → Gave (write_term_outcome names tree (length old)) (bytes_of names tree) old new r → WriteTerm names tree old new r
-unfolding write_term_list
+pub write_told : {names tree old new : List ℕ} {r : Result ℕ Refusal} → Gave (names_then names (write_named names tree (length old))) (bytes_of names tree) old new r → WriteTerm names tree old new r
+unfolding write_term_outcome write_term_list
 write_told g = record { answer = g.answer; list = g.list }

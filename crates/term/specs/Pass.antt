@@ -70,6 +70,11 @@ abbrev pub pass_then : Result ℕ Refusal → Outcome → Outcome
 pass_then (Err e) otherwise = refused_by e
 pass_then (Ok m) otherwise = otherwise
 
+-- a refusal, or a count
+abbrev pub counted : (count : ℕ) → Result (Unit {0}) Refusal → Result ℕ Refusal
+counted count (Ok _) = Ok count
+counted count (Err e) = Err e
+
 -- the answer decides 19 and 20; where there is neither, the entries of the tree are counted, and kept
 pub record Passed (names text entries : List ℕ) (r : Result ℕ Refusal) : Type 0 where
   pub decided : (o : Outcome) → pass_then r o ≡ term_then text (first_faulty (length text) (name_ground names text) o)

@@ -1,16 +1,16 @@
 // Terms: reading one into a tree, and writing a tree as one.
 #![tactic(auto)]
 
-ghost use Rattle.std.specs.Prelude.{◌≡◌, false, ◌+◌, ◌-◌, ◌<◌, ◌≤◌, length, get_or, take, ltb, eqb};
+ghost use Rattle.std.specs.Prelude.{◌≡◌, false, ◌+◌, ◌-◌, ◌^◌, ◌<◌, ◌≤◌, length, get_or, take, ltb, eqb};
 ghost use Rattle.model.specs.Answers.{refused_by};
-ghost use Rattle.model.specs.Names.{is_name_byte};
+ghost use Rattle.model.specs.Names.{is_name_byte, name_of};
 ghost use Rattle.model.specs.Tree.{WellFormed};
 ghost use Rattle.model.specs.TermOperations.{fits_in, read_named, write_fits, write_formed, write_named};
 ghost use Rattle.chains.specs.First.{first_with};
 ghost use Rattle.scan.specs.TextState.{scanned};
-ghost use Rattle.term.specs.Emit.{entry_text, closing, mark_after, entries_text};
+ghost use Rattle.term.specs.Emit.{entry_text, mark_after, entries_text};
 ghost use Rattle.term.specs.Written.{Put, Front, EntriesNamed, Gave, ReadBy, WriteBy, ReadTerm, WriteTerm};
-ghost use Rattle.term.specs.Pass.{Closing, Follows, unlisted_at, SymbolPut, Cleared, Passed};
+ghost use Rattle.term.specs.Pass.{Closing, Follows, unlisted_at, SymbolPut, Cleared, counted, Passed};
 
 use model::{Answer, Kind, Refusal};
 use names::{NameLines, NamesList, NamesRoom, list_seed, stretch_at};
@@ -18,18 +18,19 @@ use scan::scan_text;
 use tree::check_tree;
 use words::{put_word, word_at};
 
-// What follows a name: another name is due at a place, with so many brackets open, after so many bars; or the text ends, after so many bars.
+// What follows a name.
 #[derive(Clone, Copy)]
 pub enum After {
-    Name(usize, usize, usize),
-    Ends(usize),
-}
-
-// Whether the byte at a place is `(`.
-fn opens(text: &[u8], at: usize) -> bool
-    ensures { result ≡ eqb (get_or text.now at 0) 40 }
-{
-    at < text.len() && text[at] == b'('
+    // another name is due at a place, with so many brackets open, after so many bars
+    Name {
+        place: usize,
+        open: usize,
+        bars: usize,
+    },
+    // the text ends, after so many bars
+    Ends {
+        bars: usize,
+    },
 }
 
 // How many `)` stand at a place, no more than brackets are open.
@@ -37,12 +38,11 @@ fn closes(text: &[u8], at: usize, depth: usize) -> usize
     requires { at ≤ length text.now }
     ensures { Closing text.now at depth result }
 {
-    for c in 0..depth {
-        if text.len() <= at + c || text[at + c] != b')' {
-            return c;
-        }
-    }
-    depth
+    text[at..]
+        .iter()
+        .take(depth)
+        .take_while(|b| **b == b')')
+        .count()
 }
 
 // What follows the name that ends at a place, or refusal 19 where the text stops being a term.
@@ -50,67 +50,87 @@ fn after_name(text: &[u8], end: usize, depth: usize) -> Result<After, Refusal>
     requires { (end ≤ length text.now) × (is_name_byte (get_or text.now end 0) ≡ false) × (depth ≤ 65536) }
     ensures { Follows text.now end depth result }
 {
-    if opens(text, end) {
-        return Ok(After::Name(end + 1, depth + 1, 0));
+    if text.get(end) == Some(&b'(') {
+        return Ok(After::Name {
+            place: end + 1,
+            open: depth + 1,
+            bars: 0,
+        });
     }
     let c = closes(text, end, depth);
     let i = end + c;
-    if i == text.len() {
-        if depth == c {
-            return Ok(After::Ends(c + 1));
+    match text.get(i) {
+        None if c == depth => Ok(After::Ends { bars: c + 1 }),
+        Some(b',') if c < depth => Ok(After::Name {
+            place: i + 1,
+            open: depth - c,
+            bars: c + 1,
+        }),
+        _ => Err(Refusal::new(Kind::NotATerm, i)),
+    }
+}
+
+// The entries of a tree, as many as there is room for, and how many it has. The bars are there: the room begins cleared.
+#[derive(Drop)]
+struct Entries {
+    kept: [u8; 4096],
+    count: usize,
+}
+
+impl Entries {
+    // Adds a symbol, and keeps it where there is room.
+    fn push(&mut self, symbol: u8)
+        requires long { length self.old.kept ≡ 4096 }
+        requires fits { self.old.count + 1 < 2 ^ 64 }
+        ensures kept { SymbolPut self.old.kept self.new.kept self.old.count symbol }
+        ensures count { self.new.count ≡ self.old.count + 1 }
+    {
+        if self.count < 4096 {
+            self.kept[self.count] = symbol;
         }
-        return Err(Refusal::new(Kind::NotATerm, i));
+        self.count += 1;
     }
-    if depth == c {
-        return Err(Refusal::new(Kind::NotATerm, i));
-    }
-    if text[i] == b',' {
-        return Ok(After::Name(i + 1, depth - c, c + 1));
-    }
-    Err(Refusal::new(Kind::NotATerm, i))
-}
 
-// What stands at a place is not listed: 20 where the whole text is a term, and else 19 where it stops being one.
-fn unlisted(text: &[u8], place: usize) -> Refusal
-    requires { length text.now ≤ 65536 }
-    ensures { refused_by result ≡ unlisted_at (scanned text.now) place }
-{
-    match scan_text(text) {
-        Some(p) => Refusal::new(Kind::NotATerm, p),
-        None => Refusal::new(Kind::UnlistedName, place),
+    // Puts them at the front of the list, where they are not too many and there is room.
+    fn put_into(&self, tree: &mut [u16]) -> Answer
+        requires { length self.now.kept ≡ 4096 }
+        ensures { Gave (fits_in 4096 self.now.count (length tree.old)) (take self.now.count self.now.kept) tree.old tree.new result }
+    {
+        if 4096 < self.count {
+            return Err(Refusal::new(Kind::TermTreeTooLong, 0));
+        }
+        if tree.len() < self.count {
+            return Err(Refusal::new(Kind::ShortTermTree, self.count));
+        }
+        put_front(&self.kept, self.count, tree);
+        Ok(self.count as u64)
     }
 }
 
-// Keeps a symbol, where there is room.
-fn put_symbol(entries: &mut [u8; 4096], at: usize, symbol: u8)
-    requires { length entries.old ≡ 4096 }
-    ensures { SymbolPut entries.old entries.new at symbol }
+// Reads the text, and adds the entries of its tree to none, or gives refusal 19 or 20.
+// What is looked up is the stretch of bytes from `-` to `z`: if it is listed it is a name, and if not the scan decides.
+fn read_text(list: &NamesList, text: &[u8], entries: &mut Entries) -> Result<(), Refusal>
+    requires short { length text.now ≤ 65536 }
+    requires cleared { Cleared entries.old.kept × (entries.old.count ≡ 0) }
+    ensures { Passed list.now.index.lines.names.now text.now entries.new.kept (counted entries.new.count result) }
 {
-    if at < 4096 {
-        entries[at] = symbol;
-    }
-}
-
-// Reads the text, and keeps the entries of its tree, as many as there is room for: gives how many it has, or refusal 19 or 20. The bars are there:
-// the array is cleared. What is looked up is the stretch of bytes from `-` to `z`: if it is listed it is a name, and if not the scan decides.
-fn read_text(list: &NamesList, text: &[u8], entries: &mut [u8; 4096]) -> Result<usize, Refusal>
-    requires { (length text.now ≤ 65536) × Cleared entries.old }
-    ensures { Passed list.now.index.lines.names.now text.now entries.new result }
-{
-    let mut at = 0;
     let mut depth = 0;
     let mut i = 0;
     loop {
         let stretch = stretch_at(text, i, list.index.seed);
         let end = stretch.end;
         let Some(k) = list.index.find(stretch.bucket, &text[i..end]) else {
-            return Err(unlisted(text, i));
+            scan_text(text)?;
+            return Err(Refusal::new(Kind::UnlistedName, i));
         };
-        put_symbol(&mut *entries, at, (k + 1) as u8);
+        entries.push((k + 1) as u8);
         match after_name(text, end, depth)? {
-            After::Ends(bars) => return Ok(at + 1 + bars),
-            After::Name(place, open, bars) => {
-                at += 1 + bars;
+            After::Ends { bars } => {
+                entries.count += bars;
+                return Ok(());
+            }
+            After::Name { place, open, bars } => {
+                entries.count += bars;
                 depth = open;
                 i = place;
             }
@@ -128,21 +148,6 @@ fn put_front(entries: &[u8; 4096], count: usize, tree: &mut [u16])
     }
 }
 
-// Puts the entries at the front of the list, where they are not too many and there is room.
-fn put_tree(entries: &[u8; 4096], needed: usize, tree: &mut [u16]) -> Answer
-    requires { length entries.now ≡ 4096 }
-    ensures { Gave (fits_in 4096 needed (length tree.old)) (take needed entries.now) tree.old tree.new result }
-{
-    if 4096 < needed {
-        return Err(Refusal::new(Kind::TermTreeTooLong, 0));
-    }
-    if tree.len() < needed {
-        return Err(Refusal::new(Kind::ShortTermTree, needed));
-    }
-    put_front(entries, needed, tree);
-    Ok(needed as u64)
-}
-
 // Reads a text by a names list that keeps to the rules.
 fn read_named(list: &NamesList, text: &[u8], tree: &mut [u16]) -> Answer
     ensures { ReadBy (read_named 4096) list.now.index.lines.names.now text.now tree.old tree.new result }
@@ -150,9 +155,12 @@ fn read_named(list: &NamesList, text: &[u8], tree: &mut [u16]) -> Answer
     if 65536 < text.len() {
         return Err(Refusal::new(Kind::TextTooLong, 0));
     }
-    let mut entries = [0u8; 4096];
-    let needed = read_text(list, text, &mut entries)?;
-    put_tree(&entries, needed, tree)
+    let mut entries = Entries {
+        kept: [0; 4096],
+        count: 0,
+    };
+    read_text(list, text, &mut entries)?;
+    entries.put_into(tree)
 }
 
 // Reads a term: gives the count of the tree's entries, which then stand at the front of the list.
@@ -178,38 +186,41 @@ fn mark_after(e: u16) -> u8
     if e == 0 { b',' } else { b'(' }
 }
 
-// The line of a symbol's name, the first being line 0; 0 for a bar too.
-fn line_before(e: u16) -> usize
-    ensures { result ≡ e - 1 }
+// The name of a symbol.
+#[tactic(auto, using(crate::proofs::EntryText::name_line, crate::proofs::EntryText::name_short))]
+fn symbol_name<'a>(lines: &NameLines<'a>, e: u16) -> &'a [u8]
+    requires { (0 < e) × (e ≤ lines.now.n) }
+    ensures name { result.now ≡ name_of lines.now.names.now e }
+    ensures short { length result.now ≤ 24 }
 {
-    usize::from(e).saturating_sub(1)
-}
-
-// 1 for a bar after a bar: it gives `)`.
-fn closing_length(before: u16, e: u16) -> usize
-    ensures { result ≡ closing (mark_after before) e }
-{
-    if e == 0 && before == 0 { 1 } else { 0 }
+    lines.name(usize::from(e) - 1)
 }
 
 // How many bytes the first entry gives.
+#[tactic(auto, using(crate::proofs::EntryText::first_bar, crate::proofs::EntryText::first_name))]
 fn first_length(lines: &NameLines, e: u16) -> usize
     requires { e ≤ lines.now.n }
     ensures { (result ≡ length (entry_text lines.now.names.now 0 e)) × (result ≤ 25) }
 {
     if e == 0 {
-        return 0;
+        0
+    } else {
+        symbol_name(lines, e).len()
     }
-    lines.name(usize::from(e) - 1).len()
 }
 
-// How many bytes an entry gives after another one. A line has one byte more than its name, where the text has the separator.
+// How many bytes an entry gives after another one: `)` for a bar after a bar, and a separator and the name for a symbol.
+// (It is `put_entry_text`, counting. As one function the two would need a trait for where the bytes go, and two types with it: more than the match it saves.)
+#[tactic(auto, using(crate::proofs::EntryText::after_bar, crate::proofs::EntryText::after_leaf, crate::proofs::EntryText::after_name))]
 fn entry_length(lines: &NameLines, before: u16, e: u16) -> usize
     requires { e ≤ lines.now.n }
     ensures { (result ≡ length (entry_text lines.now.names.now (mark_after before) e)) × (result ≤ 25) }
 {
-    usize::from(lines.starts[usize::from(e)]) - usize::from(lines.starts[line_before(e)])
-        + closing_length(before, e)
+    match e {
+        0 if before == 0 => 1,
+        0 => 0,
+        _ => 1 + symbol_name(lines, e).len(),
+    }
 }
 
 // How many bytes the tree's term has.
@@ -217,24 +228,16 @@ fn text_length(lines: &NameLines, tree: &[u16]) -> usize
     requires { EntriesNamed lines.now.n tree.now }
     ensures { result ≡ length (entries_text lines.now.names.now 0 tree.now) }
 {
-    if tree.is_empty() {
+    let Some((first, rest)) = tree.split_first() else {
         return 0;
-    }
-    let mut sum = first_length(lines, tree[0]);
-    for i in 1..tree.len() {
-        sum += entry_length(lines, tree[i - 1], tree[i]);
+    };
+    let mut sum = first_length(lines, *first);
+    let mut before = *first;
+    for e in rest {
+        sum += entry_length(lines, before, *e);
+        before = *e;
     }
     sum
-}
-
-// Puts bytes one by one over as many others.
-fn put_few(to: &mut [u8], bytes: &[u8])
-    requires { length to.old ≡ length bytes.now }
-    ensures { to.new ≡ bytes.now }
-{
-    for (i, b) in bytes.iter().enumerate() {
-        to[i] = *b;
-    }
 }
 
 // Puts bytes over as many others, N at a time; the last N may overlap those before them.
@@ -246,7 +249,7 @@ fn put_words<const N: usize>(to: &mut [u8], bytes: &[u8])
 {
     let last = bytes.len() - N;
     for k in 0..(bytes.len() - 1) / N {
-        put_word::<N>(&mut *to, N * k, word_at::<N>(bytes, N * k));
+        put_word::<N>(to, N * k, word_at::<N>(bytes, N * k));
     }
     put_word::<N>(to, last, word_at::<N>(bytes, last));
 }
@@ -263,31 +266,43 @@ pub fn put_bytes(text: &mut [u8], at: usize, bytes: &[u8]) -> usize
     } else if 4 <= bytes.len() {
         put_words::<4>(to, bytes);
     } else {
-        put_few(to, bytes);
+        to.copy_from_slice(bytes);
     }
     after
 }
 
-// Puts the bytes that an entry gives at a place; gives the place after them. The mark is 0 before the first entry, as in the definition: an Option
-// would be one more `match` for each entry, and say no more.
-fn put_entry_text(lines: &NameLines, mark: u8, e: u16, text: &mut [u8], at: usize) -> usize
+// Puts the bytes that the first entry gives at the front of the list; gives the place after them.
+#[tactic(auto, using(crate::proofs::EntryText::first_bar, crate::proofs::EntryText::first_name, crate::proofs::Pieces::put_none))]
+fn put_first(lines: &NameLines, e: u16, text: &mut [u8]) -> usize
     requires e_le_n { e ≤ lines.now.n }
-    requires e_in_bounds { at + length (entry_text lines.now.names.now mark e) ≤ length text.old }
-    ensures { Put text.old text.new (entry_text lines.now.names.now mark e) at result }
+    requires e_in_bounds { length (entry_text lines.now.names.now 0 e) ≤ length text.old }
+    ensures { Put text.old text.new (entry_text lines.now.names.now 0 e) 0 result }
 {
     if e == 0 {
-        if mark == b',' {
+        0
+    } else {
+        put_bytes(text, 0, symbol_name(lines, e))
+    }
+}
+
+// Puts the bytes that an entry gives after another one at a place; gives the place after them.
+#[tactic(auto, using(crate::proofs::EntryText::after_bar, crate::proofs::EntryText::after_leaf, crate::proofs::EntryText::after_name, crate::proofs::EntryText::marked, crate::proofs::Pieces::put_one, crate::proofs::Pieces::put_none))]
+fn put_entry_text(lines: &NameLines, before: u16, e: u16, text: &mut [u8], at: usize) -> usize
+    requires e_le_n { e ≤ lines.now.n }
+    requires e_in_bounds { at + length (entry_text lines.now.names.now (mark_after before) e) ≤ length text.old }
+    ensures { Put text.old text.new (entry_text lines.now.names.now (mark_after before) e) at result }
+{
+    match e {
+        0 if before == 0 => {
             text[at] = b')';
-            return at + 1;
+            at + 1
         }
-        return at;
+        0 => at,
+        _ => {
+            text[at] = mark_after(before);
+            put_bytes(text, at + 1, symbol_name(lines, e))
+        }
     }
-    let name = lines.name(usize::from(e) - 1);
-    if mark == 0 {
-        return put_bytes(text, at, name);
-    }
-    text[at] = mark;
-    put_bytes(text, at + 1, name)
 }
 
 // Puts the tree's term at the front of the list.
@@ -296,11 +311,14 @@ fn put_text(lines: &NameLines, tree: &[u16], text: &mut [u8])
     requires tree_in_bounds { length (entries_text lines.now.names.now 0 tree.now) ≤ length text.old }
     ensures { Front text.old text.new (entries_text lines.now.names.now 0 tree.now) }
 {
-    let mut at = 0;
-    let mut mark = 0;
-    for e in tree {
-        at = put_entry_text(lines, mark, *e, &mut *text, at);
-        mark = mark_after(*e);
+    let Some((first, rest)) = tree.split_first() else {
+        return;
+    };
+    let mut at = put_first(lines, *first, text);
+    let mut before = *first;
+    for e in rest {
+        at = put_entry_text(lines, before, *e, text, at);
+        before = *e;
     }
 }
 

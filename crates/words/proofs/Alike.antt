@@ -1,6 +1,6 @@
 -- Two numbers are alike place by place, and so are the bytes that they are read from. Assumes nothing.
 use Prim.Native.Nat.{ℕ, zero, suc, ◌+◌, ◌*◌, ◌/◌, ◌%◌, ◌^◌, ◌<◌}
-use mathlib.Core.Path.{◌≡◌, refl, sym, ap, ◌∙◌}
+use mathlib.Core.Path.{◌≡◌, refl, sym, ap, ap₂, ◌∙◌}
 use mathlib.Core.Bool.{Bool, true, false, ◌&&◌}
 use mathlib.Core.List.{List, [], ◌∷◌}
 use mathlib.Core.Logic.{◌↔◌}
@@ -71,9 +71,9 @@ unfolding places_alike up
 up_places zero x y = refl
 up_places (suc m) x y = first m x y ∙ ap (λ (t : Bool). alike (x % 256) (y % 256) && t) (up_places m (x / 256) (y / 256))
 
-pub words_is : (x y : ℕ) → eqb (lanes lower 8 x) (lanes lower 8 y) ≡ words_alike x y
+pub words_is : (x y p q : ℕ) → p ≡ lanes lower 8 x → q ≡ lanes lower 8 y → eqb p q ≡ words_alike x y
 unfolding words_alike
-words_is x y = up_lanes 8 x y ∙ sym (up_places 8 x y)
+words_is x y p q e f = ap₂ eqb e f ∙ up_lanes 8 x y ∙ sym (up_places 8 x y)
 
 -- each place, and all
 places_each : (m x y : ℕ) → places_alike m x y ≡ true → (k : ℕ) → k < m → alike (byte_at x k) (byte_at y k) ≡ true

@@ -4,6 +4,7 @@ use mathlib.Core.Path.{◌≡◌, refl, sym, ap, ap₂, ◌∙◌}
 use mathlib.Core.Bool.{false, not}
 use native.Mathlib.Nat.{mod-lt, div-add-mod', mul-div_cancel_left}
 use native.Mathlib.Omega.{arith}
+use lib.Arith.{digits_div, digits_mod}
 use lib.Dec.{eqb, leb}
 use lib.Bits.{bit_and, bit_or, bit_xor, and_block, or_block, xor_block}
 use borrow.Author.Tests.{eqb-true, leb-false, not-false}
@@ -34,6 +35,15 @@ pub whole : (m x : ℕ) → x < 256 ^ m → lanes (λ b. b) m x ≡ x
 unfolding lanes
 whole zero x h = omega arith
 whole (suc m) x h = ap (λ (n : ℕ). n * 256 + x % 256) (whole m (x / 256) (omega arith)) ∙ div-add-mod' x 256
+
+-- one after the other
+pub twice : (f g : ℕ → ℕ) → Small g → (m x : ℕ) → lanes f m (lanes g m x) ≡ lanes (λ b. f (g b)) m x
+unfolding lanes
+twice f g s zero x = refl
+twice f g s (suc m) x =
+    let h = s (x % 256) (byte x) in
+    (λ i. lanes f m (digits_div (lanes g m (x / 256)) h i) * 256 + f (digits_mod (lanes g m (x / 256)) h i))
+    ∙ ap (λ (n : ℕ). n * 256 + f (g (x % 256))) (twice f g s m (x / 256))
 
 -- the same byte in all eight places
 pub same_byte : (c x : ℕ) → lanes (λ b. c) 8 x ≡ c * 0x0101_0101_0101_0101

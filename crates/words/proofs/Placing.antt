@@ -14,7 +14,7 @@ use borrow.Rule.Slice.PartMut.{put_mid}
 use Rattle.std.proofs.lemmas.List.{get_or-append_right, get_or_append_left}
 use Rattle.std.specs.Int as Int
 use Rattle.std.specs.Int.{w64, bytes_low_first, to_le_bytes}
-use Rattle.words.specs.Words.{byte_at, packed, Word, Placed}
+use Rattle.words.specs.Words.{byte_at, packed, Word, Placed, WordPut}
 use Rattle.words.proofs.Reading.{Bytes, others, taken, dropped}
 
 -- one entry
@@ -105,3 +105,11 @@ word_byte {n} {from} {w} {bytes} r p h k l =
     ∙ packed_byte (take n (drop from bytes)) (taken n (drop from bytes) (dropped from bytes p)) k
     (omega (arith, length-take-le n (drop from bytes) (omega (arith, length-drop from bytes)), l))
     ∙ get_or-take n (drop from bytes) k 0 l ∙ get_or-drop from bytes k 0
+
+-- the n low bytes of a number, put as `copy_from_slice` puts them
+pub word_put : (n at : ℕ) (old ys zs : List ℕ) (w : ℕ) → ys ≡ take n zs → zs ≡ to_le_bytes w64 w → n ≤ 8 → at + n ≤ length old → length ys ≡ length (take (at + n - at) (drop at old))
+    → WordPut n old (put_mid at (at + n - at) old ys) at w
+word_put n at old ys zs w e f h l p =
+    let z : at + n - at ≡ n = omega arith in
+    placed_part n at old ys _ l (p ∙ length-take-le (at + n - at) (drop at old) (omega (arith, length-drop at old)) ∙ z)
+    (λ k b. ap (λ (xs : List ℕ). get_or xs k 0) (e ∙ ap (take n) f) ∙ first_bytes n w k h b)

@@ -46,6 +46,10 @@ unfoldable pub lanes : (f : ℕ → ℕ) (m x : ℕ) → ℕ
 lanes f zero x = 0
 lanes f (suc m) x = lanes f m (x / 256) * 256 + f (x % 256)
 
+-- 128 where the byte is from `first` to `last`, else 0
+unfoldable pub marked : (first last b : ℕ) → ℕ
+marked first last b = if between first last b then 128 else 0
+
 -- a byte from `-` to `z`: every name byte is one, and byte 10, `(`, `)` and `,` are none
 abbrev pub is_inner : ℕ → Bool
 is_inner b = between 45 122 b

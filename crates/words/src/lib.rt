@@ -3,19 +3,36 @@
 
 ghost use Rattle.std.specs.Prelude.{◌≡◌, ◌+◌, ◌<◌, ◌≤◌, length};
 ghost use Rattle.model.specs.Names.{lower};
-ghost use Rattle.words.specs.Words.{lanes, words_alike, inner_ahead, foreign, Word, WordPut};
+ghost use Rattle.words.specs.Words.{lanes, marked, words_alike, inner_ahead, foreign, packed, Word, WordPut};
+
+// 1 in each of the eight bytes.
+const ONES: u64 = 0x0101_0101_0101_0101;
+
+// The top bit of each.
+const TOP_BITS: u64 = 0x8080_8080_8080_8080;
+
+// 128 in the place of each byte from FIRST to LAST, both below 128, and 0 in the others.
+#[tactic(auto, using(crate::proofs::Formulas::between_is))]
+fn bytes_between<const FIRST: u8, const LAST: u8>(x: u64) -> u64
+    requires { (FIRST ≤ LAST) × (LAST < 128) }
+    ensures { result ≡ lanes (marked FIRST LAST) 8 x }
+{
+    let low = x & 0x7f7f_7f7f_7f7f_7f7f;
+    let reached = low + u64::from(128 - FIRST) * ONES;
+    let passed = low + u64::from(127 - LAST) * ONES;
+    (reached ^ passed) & !x & TOP_BITS
+}
 
 // Each of the eight bytes, a capital letter as the small one.
+#[tactic(auto, using(crate::proofs::Formulas::fold_is, crate::proofs::Formulas::fold_fits))]
 fn fold_word(x: u64) -> u64
     ensures { result ≡ lanes lower 8 x }
 {
-    let low = x & 0x7f7f_7f7f_7f7f_7f7f;
-    let letter = (low + 0x3f3f_3f3f_3f3f_3f3f) ^ (low + 0x2525_2525_2525_2525);
-    let upper = letter & !x & 0x8080_8080_8080_8080;
-    x + upper / 4
+    x + bytes_between::<b'A', b'Z'>(x) / 4
 }
 
 // Whether two words are alike: in each of the eight places the bytes are the same, or one letter in its two cases.
+#[tactic(auto, using(crate::proofs::Alike::words_is))]
 pub fn words_alike(x: u64, y: u64) -> bool
     ensures { result ≡ words_alike x y }
 {
@@ -23,50 +40,46 @@ pub fn words_alike(x: u64, y: u64) -> bool
 }
 
 // How many bytes from `-` to `z` a word begins with.
+#[tactic(auto, using(crate::proofs::Zeros::zeros_ahead))]
 pub fn inner_ahead(x: u64) -> usize
     ensures { result ≡ inner_ahead 8 x }
 {
-    let low = x & 0x7f7f_7f7f_7f7f_7f7f;
-    let outer = (!(low + 0x5353_5353_5353_5353) | (low + 0x0505_0505_0505_0505) | x)
-        & 0x8080_8080_8080_8080;
+    let outer = !bytes_between::<b'-', b'z'>(x) & TOP_BITS;
     (outer.trailing_zeros() / 8) as usize
 }
 
 // 128 in the place of each byte that may not stand in a names list, and 0 in the others.
+#[tactic(auto, using(crate::proofs::Formulas::foreign_is))]
 pub fn foreign_bytes(x: u64) -> u64
     ensures { result ≡ lanes foreign 8 x }
 {
-    let low = x & 0x7f7f_7f7f_7f7f_7f7f;
-    let small = low | 0x2020_2020_2020_2020;
-    let letter = (small + 0x1f1f_1f1f_1f1f_1f1f) ^ (small + 0x0505_0505_0505_0505);
-    let digit = (low + 0x5050_5050_5050_5050) ^ (low + 0x4646_4646_4646_4646);
-    let hyphen = (low + 0x5353_5353_5353_5353) ^ (low + 0x5252_5252_5252_5252);
-    let underscore = (low + 0x2121_2121_2121_2121) ^ (low + 0x2020_2020_2020_2020);
-    let ten = (low + 0x7676_7676_7676_7676) ^ (low + 0x7575_7575_7575_7575);
-    (!(letter | digit | hyphen | underscore | ten) | x) & 0x8080_8080_8080_8080
+    let letters = bytes_between::<b'a', b'z'>(x | 0x20 * ONES);
+    let digits = bytes_between::<b'0', b'9'>(x);
+    let hyphens = bytes_between::<b'-', b'-'>(x);
+    let underscores = bytes_between::<b'_', b'_'>(x);
+    let tens = bytes_between::<b'\n', b'\n'>(x);
+    !(letters | digits | hyphens | underscores | tens) & TOP_BITS
 }
 
-// N bytes as one number, the first byte the lowest: one load (bench/README.md says how that was seen).
+// At most eight bytes as one number, the first byte the lowest.
+#[tactic(auto, using(crate::proofs::Reading::from_few))]
+fn number_of(bytes: &[u8]) -> u64
+    requires { length bytes.now ≤ 8 }
+    ensures { result ≡ packed bytes.now }
+{
+    let mut word = [0u8; 8];
+    word[..bytes.len()].copy_from_slice(bytes);
+    u64::from_le_bytes(word)
+}
+
+// N bytes as one number: one load (bench/README.md says how that was seen).
+#[tactic(auto, using(crate::proofs::Reading::few_word))]
 pub fn word_at<const N: usize>(bytes: &[u8], at: usize) -> u64
     requires at_in_bounds { at + N ≤ length bytes.now }
     requires n_le_8 { N ≤ 8 }
     ensures { Word N at bytes.now result }
 {
-    let mut word = [0u8; 8];
-    word[..N].copy_from_slice(&bytes[at..at + N]);
-    u64::from_le_bytes(word)
-}
-
-// What is left of the bytes, fewer than eight, as one number.
-fn rest_at(bytes: &[u8], at: usize) -> u64
-    requires { (at ≤ length bytes.now) × (length bytes.now < at + 8) }
-    ensures { Word 8 at bytes.now result }
-{
-    let mut w = 0;
-    for b in bytes[at..].iter().rev() {
-        w = w * 256 + u64::from(*b);
-    }
-    w
+    number_of(&bytes[at..at + N])
 }
 
 // Eight bytes as one number, or what is left of them.
@@ -77,11 +90,12 @@ pub fn word_or_rest(bytes: &[u8], at: usize) -> u64
     if 8 <= bytes.len() - at {
         word_at::<8>(bytes, at)
     } else {
-        rest_at(bytes, at)
+        number_of(&bytes[at..])
     }
 }
 
 // Puts the N low bytes of a number, the lowest first: one store.
+#[tactic(auto, using(crate::proofs::Placing::word_put))]
 pub fn put_word<const N: usize>(text: &mut [u8], at: usize, w: u64)
     requires at_in_bounds { at + N ≤ length text.old }
     requires n_le_8 { N ≤ 8 }

@@ -1,5 +1,6 @@
+use Prim.Native.Nat.{◌+◌}
 use native.Mathlib.Omega.{arith}
-use mathlib.Core.Path.{sym, ap, ◌∙◌}
+use mathlib.Core.Path.{◌≡◌, sym, ap, ◌∙◌}
 use lib.ListN.{drop}
 use Rattle.std.specs.Prelude.{Ok}
 use Rattle.std.proofs.lemmas.Result.{err_from_is_err_and}
@@ -7,11 +8,13 @@ use Rattle.names.specs.NamesIndex.{all_inner, hash_of}
 use Rattle.names.proofs.Bytes.{stretch_inner}
 use Rattle.names.proofs.Lines.{part_stretch}
 use Rattle.term.proofs.Runs.{end_byte}
+use Rattle.model.specs.Answers.{refused_by}
+use Rattle.term.proofs.Outcomes.{unlisted_breaks, unlisted_whole}
 use Rattle.term.proofs.Going.{go_first, go_unlisted, name_there, line_below, go_name, go_taken, go_breaks}
 use Rattle.term.proofs.read_text.Goals as goal
 
 pub loop-k-init : goal.loop-k-init
-loop-k-init c = go_first _ _ _ c.requires.0 c.requires.1
+loop-k-init c = rw c.requires.cleared.1 (go_first _ _ _ c.requires.short c.requires.cleared.0)
 
 pub find-requires-clause-hashed : goal.find-requires-clause-hashed
 find-requires-clause-hashed c =
@@ -21,8 +24,17 @@ find-requires-clause-hashed c =
 pub find-requires-clause-name_value : goal.find-requires-clause-name_value
 find-requires-clause-name_value c = ap all_inner (part_stretch c.args.text.now c.loop-k.i _ c.stretch_at-stretch.ensures.ends) ∙ stretch_inner (drop c.loop-k.i c.args.text.now)
 
+pub returns-in_err-scan_text : goal.returns-in_err-scan_text
+returns-in_err-scan_text c =
+    let p = err_from_is_err_and c.from_residual.result c.from_residual.ensures.1 in
+    rw (p.1, p.2)
+    (go_unlisted c.loop-k.invariant _ _ c.args.list.now.whole c.stretch_at-stretch.ensures.ends (sym c.find.ensures ∙ c.in_default.is)
+    (unlisted_breaks _ _ c.loop-k.i c.scan_text.ensures _ c.in_err-scan_text.was))
+
 pub returns-in_default : goal.returns-in_default
-returns-in_default c = go_unlisted c.loop-k.invariant _ _ c.args.list.now.whole c.stretch_at-stretch.ensures.ends (sym c.find.ensures ∙ c.in_default.is) c.unlisted.ensures
+returns-in_default c =
+    go_unlisted c.loop-k.invariant _ _ c.args.list.now.whole c.stretch_at-stretch.ensures.ends (sym c.find.ensures ∙ c.in_default.is)
+    (ap refused_by c.new.ensures ∙ unlisted_whole _ _ c.loop-k.i c.scan_text.ensures c.in_ok-scan_text.was)
 
 pub overflow_add-k : goal.overflow_add-k
 overflow_add-k c =
@@ -39,14 +51,17 @@ after_name-requires c =
 
 pub returns-in_err-bars : goal.returns-in_err-bars
 returns-in_err-bars c =
-    let p = err_from_is_err_and c.from_residual.result c.from_residual.ensures.1 in
+    let p = err_from_is_err_and c.from_residual-in_err-bars.result c.from_residual-in_err-bars.ensures.1 in
     rw (p.1, p.2) (go_breaks (name_there c.loop-k.invariant c.args.list.now.index.indexed c.args.list.now.whole c.stretch_at-stretch.ensures (sym c.find.ensures ∙ c.in-Some.is)) _ (c.after_name.ensures.breaks _ c.in_err-bars.was))
 
 pub returns-in-Ends : goal.returns-in-Ends
 returns-in-Ends c =
     let z = c.after_name.ensures.ends _ (c.in_ok-bars.was ∙ ap Ok c.in-Ends.is) in
-    go_taken (name_there c.loop-k.invariant c.args.list.now.index.indexed c.args.list.now.whole c.stretch_at-stretch.ensures (sym c.find.ensures ∙ c.in-Some.is)) _ c.put_symbol.ensures _ z.0 z.1
+    rw c.push.ensures.count
+    (go_taken (name_there c.loop-k.invariant c.args.list.now.index.indexed c.args.list.now.whole c.stretch_at-stretch.ensures (sym c.find.ensures ∙ c.in-Some.is)) _ c.push.ensures.kept _ z.0 z.1)
 
 pub loop-k-preserved : goal.loop-k-preserved
 loop-k-preserved c =
-    go_name (name_there c.loop-k.invariant c.args.list.now.index.indexed c.args.list.now.whole c.stretch_at-stretch.ensures (sym c.find.ensures ∙ c.in-Some.is)) _ c.put_symbol.ensures _ _ _ (c.after_name.ensures.name _ _ _ (c.in_ok-bars.was ∙ ap Ok c.in-Name.is))
+    let z : c.loop-k.entries.count + 1 + c.in-Name.bars ≡ c.loop-k.entries.count + (1 + c.in-Name.bars) = omega arith in
+    rw (c.push.ensures.count, z)
+    (go_name (name_there c.loop-k.invariant c.args.list.now.index.indexed c.args.list.now.whole c.stretch_at-stretch.ensures (sym c.find.ensures ∙ c.in-Some.is)) _ c.push.ensures.kept _ _ _ (c.after_name.ensures.name _ _ _ (c.in_ok-bars.was ∙ ap Ok c.in-Name.is)))

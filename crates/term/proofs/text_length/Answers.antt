@@ -1,21 +1,19 @@
-use Prim.Native.Nat.{◌+◌, ◌-◌}
-use native.Mathlib.Nat.{pos_of_ne-zero}
-use native.Mathlib.Omega.{arith}
-use mathlib.Core.Path.{◌≡◌, refl, sym, ◌∙◌}
-use borrow.Author.Tests.{eqb-true, eqb-false}
-use Rattle.term.proofs.EntryText.{sum_first, sum_empty, sum_next, sum_last}
+use Rattle.std.proofs.Common.{ap, sym}
+use lib.ListN.{length}
+use Rattle.term.proofs.EntryText.{entries_none, sum_first, sum_next, sum_last, named_next}
 use Rattle.term.proofs.text_length.Goals as goal
 
-pub returns-then-is_empty : goal.returns-then-is_empty
-returns-then-is_empty c = sum_empty c.args.lines.now.names.now c.args.tree.now (eqb-true _ 0 (sym c.is_empty.ensures ∙ c.if-is_empty.true))
+pub returns-in_default : goal.returns-in_default
+returns-in_default c = sym (ap length (entries_none c.args.lines.now.names.now c.args.tree.now c.in_default.ensures.cases))
 
-pub loop-i-init : goal.loop-i-init
-loop-i-init c = sum_first _ _ (pos_of_ne-zero (eqb-false _ 0 (sym c.is_empty.ensures ∙ c.if-is_empty.false))) _ c.first_length-sum.ensures.0 c.first_length-sum.ensures.1
+pub loop-e-init : goal.loop-e-init
+loop-e-init c = sum_first _ _ _ _ c.in-Some.ensures.cases.0 _ c.first_length-sum.ensures
 
-pub loop-i-preserved : goal.loop-i-preserved
-loop-i-preserved c =
-    let z : c.loop-i.i + 1 - 1 ≡ c.loop-i.i = omega arith in
-    rw z (sum_next c.loop-i.invariant c.loop-i-test.true _ _ c.entry_length-sum.ensures.0 c.entry_length-sum.ensures.1 refl)
+pub entry_length-sum-requires : goal.entry_length-sum-requires
+entry_length-sum-requires c = named_next c.requires _ _ c.in-Some.ensures.cases.0 c.loop-e.e-index c.loop-e-test.true
+
+pub loop-e-preserved : goal.loop-e-preserved
+loop-e-preserved c = sum_next c.loop-e.invariant c.loop-e-test.true _ c.entry_length-sum.ensures
 
 pub returns : goal.returns
-returns c = sum_last c.loop-i.invariant c.loop-i-test.false
+returns c = sum_last c.loop-e.invariant c.loop-e-test.false
