@@ -28,7 +28,7 @@ const ROWS: [u16; 42] = [
 
 const ACCEPTING: [u16; 2] = [2, 4];
 
-const NAMES: [u8; 4] = [b'a', b'\n', b'b', b'\n'];
+const NAMES: [u8; 4] = *b"a\nb\n";
 
 const PAPER: Lists<'static> = Lists {
     states: STATES,
