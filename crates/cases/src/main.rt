@@ -85,11 +85,11 @@ impl<'a> Numbers<'a> {
             return Err(Stop::NoCase);
         }
         self.rest = rest;
-        let mut list = Vec::with_capacity(alloc, values.len())?;
-        for x in values {
-            list.push(T::try_from(*x).map_err(|_| Stop::NoCase)?)?;
-        }
-        Ok(list)
+        values
+            .iter()
+            .map(|x| T::try_from(*x))
+            .collect::<Result<Vec<T>, T::Error>>(alloc)?
+            .map_err(|_| Stop::NoCase)
     }
 
     fn table(&mut self, alloc: Global) -> Result<Table, Stop> {
@@ -180,8 +180,7 @@ impl Case {
                     number,
                     lent.as_mut_slice(),
                 );
-                say(out, "result", answer)?;
-                say_list(out, lent.as_slice())
+                say_lent(out, answer, lent.as_slice())
             }
             Case::ReadTerm(names, text, mut lent) => {
                 let answer = term::read_term(
@@ -189,8 +188,7 @@ impl Case {
                     text.as_slice(),
                     lent.as_mut_slice(),
                 );
-                say(out, "result", answer)?;
-                say_list(out, lent.as_slice())
+                say_lent(out, answer, lent.as_slice())
             }
             Case::WriteTerm(names, tree, mut lent) => {
                 let answer = term::write_term(
@@ -198,8 +196,7 @@ impl Case {
                     tree.as_slice(),
                     lent.as_mut_slice(),
                 );
-                say(out, "result", answer)?;
-                say_list(out, lent.as_slice())
+                say_lent(out, answer, lent.as_slice())
             }
         }
     }
@@ -213,10 +210,15 @@ fn say<W: Write>(out: &mut W, what: &str, answer: Answer) -> io::Result<()> {
     }
 }
 
-// What a lent list holds after the answer: its entries or, if there are many, how many and their digest.
-fn say_list<T: Copy + Into<u16>, W: Write>(out: &mut W, list: &[T]) -> io::Result<()> {
-    let n = list.len();
+// An answer, and what the lent list holds after it: its entries or, if there are many, how many and their digest.
+fn say_lent<T: Copy + Into<u16>, W: Write>(
+    out: &mut W,
+    answer: Answer,
+    list: &[T],
+) -> io::Result<()> {
+    say(out, "result", answer)?;
     out.write_all(b";")?;
+    let n = list.len();
     if n <= 64 {
         for x in list {
             let entry: u16 = (*x).into();
@@ -224,11 +226,9 @@ fn say_list<T: Copy + Into<u16>, W: Write>(out: &mut W, list: &[T]) -> io::Resul
         }
         return Ok(());
     }
-    let mut digest: u64 = 0;
-    for x in list {
-        let entry: u16 = (*x).into();
-        digest = (digest % 4294967291 * 65599 + u64::from(entry)) % 4294967291;
-    }
+    let digest = list.iter().fold(0, |digest: u64, x| {
+        (digest % 4294967291 * 65599 + u64::from((*x).into())) % 4294967291
+    });
     write!(out, " {n} entries {digest}")
 }
 
