@@ -22,8 +22,8 @@ ghost use Rattle.std.specs.Prelude.{◌+◌, ◌*◌, ◌^◌, ◌<◌, length, 
 
 use model::Answer;
 use std::alloc::{AllocError, AllocFailed, Global};
+use std::io;
 use std::io::{BufWriter, Read, Write};
-use std::{io, mem};
 
 // The numbers of a line as it is read, and with its short forms written out.
 const ROOM: usize = 80000;
@@ -298,6 +298,10 @@ impl Line {
         }
     }
 
+    fn is_empty(&self) -> bool {
+        self.open.is_none() && self.numbers.as_ref().is_some_and(|n| n.is_empty())
+    }
+
     // A byte more, which is to be a digit.
     fn add(&mut self, b: u8) {
         self.open = if b.is_ascii_digit() {
@@ -318,68 +322,81 @@ impl Line {
         }
         Ok(())
     }
+}
 
-    fn answer<W: Write>(&self, alloc: Global, out: &mut W) -> Result<(), Stop> {
-        let line = self.numbers.as_ref().ok_or(Stop::NoCase)?;
-        let numbers = write_out(alloc, line.as_slice())?;
-        Case::read(alloc, numbers.as_slice())?.answer(out)?;
-        Ok(())
-    }
+// The input's lines, each answered where it ends.
+#[derive(Drop)]
+struct Lines<W> {
+    alloc: Global,
+    out: W,
+    line: Line,
+}
 
-    // The line ends here, and is answered.
-    fn end<W: Write>(mut self, alloc: Global, out: &mut W) -> io::Result<()> {
-        self.close()?;
-        match self.answer(alloc, out) {
-            Ok(()) => out.write_all(b"\n"),
-            Err(Stop::NoCase) => out.write_all(b"bad line\n"),
-            Err(Stop::Io(error)) => Err(error),
+impl<W: Write> Lines<W> {
+    fn new(alloc: Global, out: W) -> Lines<W> {
+        Lines {
+            alloc,
+            out,
+            line: Line::new(alloc),
         }
     }
 
-    // A byte more.
-    fn feed<W: Write>(&mut self, alloc: Global, out: &mut W, b: u8) -> io::Result<()> {
-        match b {
-            b'\n' => mem::replace(self, Line::new(alloc)).end(alloc, out)?,
-            b' ' => self.close()?,
-            _ => self.add(b),
+    // The answer to the line.
+    fn answer(&mut self) -> Result<(), Stop> {
+        let line = self.line.numbers.as_ref().ok_or(Stop::NoCase)?;
+        let numbers = write_out(self.alloc, line.as_slice())?;
+        Case::read(self.alloc, numbers.as_slice())?.answer(&mut self.out)?;
+        Ok(())
+    }
+
+    // The line ends here.
+    fn end(&mut self) -> io::Result<()> {
+        self.line.close()?;
+        match self.answer() {
+            Ok(()) => self.out.write_all(b"\n")?,
+            Err(Stop::NoCase) => self.out.write_all(b"bad line\n")?,
+            Err(Stop::Io(error)) => return Err(error),
+        }
+        self.line = Line::new(self.alloc);
+        Ok(())
+    }
+
+    // More bytes.
+    fn feed(&mut self, bytes: &[u8]) -> io::Result<()> {
+        for b in bytes {
+            match *b {
+                b'\n' => self.end()?,
+                b' ' => self.line.close()?,
+                b => self.line.add(b),
+            }
         }
         Ok(())
     }
 
     // No byte more. A line of no bytes is none.
-    fn last<W: Write>(self, alloc: Global, out: &mut W) -> io::Result<()> {
-        if let (None, Some(numbers)) = (self.open, &self.numbers) {
-            if numbers.is_empty() {
-                return Ok(());
-            }
+    fn last(&mut self) -> io::Result<()> {
+        if self.line.is_empty() {
+            Ok(())
+        } else {
+            self.end()
         }
-        self.end(alloc, out)
     }
-}
-
-// The bytes of one read.
-fn feed_all<W: Write>(alloc: Global, out: &mut W, line: &mut Line, bytes: &[u8]) -> io::Result<()> {
-    for b in bytes {
-        line.feed(alloc, out, *b)?;
-    }
-    Ok(())
 }
 
 // The answers to the lines that a read ends are written before the next read.
 fn main(rt: HostRuntime) -> io::Result<()> {
     let alloc = rt.alloc();
     let mut input = rt.stdin();
-    let mut out = BufWriter::new(alloc, rt.stdout())?;
+    let mut lines = Lines::new(alloc, BufWriter::new(alloc, rt.stdout())?);
     let mut bytes = [0u8; 65536];
-    let mut line = Line::new(alloc);
     for _ in 0..u64::MAX {
         let n = input.read(&mut bytes)?;
         if n == 0 {
-            line.last(alloc, &mut out)?;
-            return out.flush();
+            lines.last()?;
+            return lines.out.flush();
         }
-        feed_all(alloc, &mut out, &mut line, &bytes[..n])?;
-        out.flush()?;
+        lines.feed(&bytes[..n])?;
+        lines.out.flush()?;
     }
     Ok(())
 }
@@ -391,11 +408,10 @@ mod tests {
 
     // What is printed for an input.
     fn printed(alloc: Global, input: &[u8]) -> io::Result<Vec<u8>> {
-        let mut out = Vec::new(alloc);
-        let mut line = Line::new(alloc);
-        feed_all(alloc, &mut out, &mut line, input)?;
-        line.last(alloc, &mut out)?;
-        Ok(out)
+        let mut lines = Lines::new(alloc, Vec::new(alloc));
+        lines.feed(input)?;
+        lines.last()?;
+        Ok(lines.out)
     }
 
     #[test]
