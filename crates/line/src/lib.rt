@@ -115,8 +115,7 @@ fn put_decimal(n: u64, mark: u8, at: usize, out: &mut [u8]) -> usize
 }
 
 // Puts the output line of a number at the front of `out`; gives its length.
-fn put_number(n: u64, out: &mut [u8]) -> usize
-    requires { longest_line ≤ length out.old }
+fn put_number(n: u64, out: &mut [u8; LONGEST_LINE]) -> usize
     ensures { Begins out.new (decimal n ++ 10 ∷ []) result }
 {
     put_decimal(n, b'\n', 0, out)
@@ -124,8 +123,7 @@ fn put_number(n: u64, out: &mut [u8]) -> usize
 
 // Puts the output line of a refusal: its number and its place.
 // (By hand: what the list then holds is promised, and no clause knows which bytes `write!` leaves in a slice.)
-fn put_refusal(r: Refusal, out: &mut [u8]) -> usize
-    requires { longest_line ≤ length out.old }
+fn put_refusal(r: Refusal, out: &mut [u8; LONGEST_LINE]) -> usize
     ensures { Begins out.new (printed (refused_by r) decimal) result }
 {
     let number = u64::from(model::kind_number(r.kind));
@@ -143,9 +141,8 @@ impl Lists<'_> {
         &self,
         number: u64,
         tree: &mut [u16; 4096],
-        out: &mut [u8],
+        out: &mut [u8; LONGEST_LINE],
     ) -> Result<usize, Refusal>
-        requires { longest_line ≤ length out.old }
         ensures { Answers out.new (answer_number self.now.states self.now.rows.now self.now.accepting.now self.now.names.now number) result }
     {
         let count = operations::write(
@@ -165,9 +162,8 @@ impl Lists<'_> {
         &self,
         text: &[u8],
         tree: &mut [u16; 4096],
-        out: &mut [u8],
+        out: &mut [u8; LONGEST_LINE],
     ) -> Result<usize, Refusal>
-        requires { longest_line ≤ length out.old }
         ensures { Answers out.new (answer_term self.now.states self.now.rows.now self.now.accepting.now self.now.names.now text.now) result }
     {
         let count = term::read_term(self.names, text, tree)? as usize;
@@ -180,9 +176,8 @@ impl Lists<'_> {
         &self,
         line: &Line,
         tree: &mut [u16; 4096],
-        out: &mut [u8],
+        out: &mut [u8; LONGEST_LINE],
     ) -> Result<usize, Refusal>
-        requires { longest_line ≤ length out.old }
         ensures { (held : List ℕ) → Holds held line.now
             → Answers out.new (answer_to self.now.states self.now.rows.now self.now.accepting.now self.now.names.now held) result }
     {
@@ -202,9 +197,10 @@ impl Lists<'_> {
         ensures begins { (held : List ℕ) → Holds held line.now
             → Begins out.new (answer_to self.now.states self.now.rows.now self.now.accepting.now self.now.names.now held) result }
     {
-        match self.answer_line(line, tree, out) {
+        let room = out.first_chunk_mut().unwrap();
+        match self.answer_line(line, tree, room) {
             Ok(count) => count,
-            Err(refusal) => put_refusal(refusal, out),
+            Err(refusal) => put_refusal(refusal, room),
         }
     }
 
