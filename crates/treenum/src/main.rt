@@ -37,6 +37,9 @@ const PAPER: Lists<'static> = Lists {
     names: &NAMES,
 };
 
+// What is to be printed is gathered here: room for 16,384 bytes, and for one answer more.
+type Out = [u8; 69633];
+
 // Why a run ends before all is answered: a read failed; a write failed; or there were more reads than can be counted.
 #[derive(Clone, Copy, Debug)]
 enum Failure {
@@ -56,8 +59,8 @@ impl Display for Failure {
 }
 
 // Feeds the bytes from a place on, to the end of the bytes or until the list may have no room for one answer more; puts what is to be printed.
-fn gather(line: &mut Line, bytes: &[u8], from: usize, out: &mut [u8]) -> Fed
-    requires from_in_bounds { (from < length bytes.now) × (longest_line ≤ length out.old) }
+fn gather(line: &mut Line, bytes: &[u8], from: usize, out: &mut Out) -> Fed
+    requires from_in_bounds { from < length bytes.now }
     ensures from_lt_next { (from < result.next) × (result.next ≤ length bytes.now) }
     ensures within { result.count ≤ length out.new }
     ensures by_index { (held : List ℕ) → Holds held line.old
@@ -67,8 +70,7 @@ fn gather(line: &mut Line, bytes: &[u8], from: usize, out: &mut [u8]) -> Fed
 }
 
 // Puts what is to be printed where the input ends.
-fn last_line(line: &Line, out: &mut [u8]) -> usize
-    requires longest_line_in_bounds { longest_line ≤ length out.old }
+fn last_line(line: &Line, out: &mut Out) -> usize
     ensures within { result ≤ length out.new }
     ensures begins { (held : List ℕ) → Holds held line.now → Begins out.new (printed_for held) result }
 {
@@ -76,8 +78,7 @@ fn last_line(line: &Line, out: &mut [u8]) -> usize
 }
 
 // Feeds the bytes of a read, and writes what is to be printed.
-fn feed_all(line: &mut Line, bytes: &[u8], out: &mut [u8], stdio: &mut Stdio) -> io::Result<()>
-    requires longest_line_in_bounds { longest_line ≤ length out.old }
+fn feed_all(line: &mut Line, bytes: &[u8], out: &mut Out, stdio: &mut Stdio) -> io::Result<()>
     ensures { (held : List ℕ) → Holds held line.old
         → Feeds held bytes.now result line.new stdio.old.log stdio.new.log }
 {
@@ -91,8 +92,7 @@ fn feed_all(line: &mut Line, bytes: &[u8], out: &mut [u8], stdio: &mut Stdio) ->
 }
 
 // Writes what is to be printed where the input ends.
-fn finish(line: &Line, out: &mut [u8], stdio: &mut Stdio) -> io::Result<()>
-    requires longest_line_in_bounds { longest_line ≤ length out.old }
+fn finish(line: &Line, out: &mut Out, stdio: &mut Stdio) -> io::Result<()>
     ensures { (held : List ℕ) → Holds held line.now → Wrote stdio.old.log stdio.new.log (printed_for held) result }
 {
     let n = last_line(line, out);
@@ -104,8 +104,7 @@ fn run(stdio: &mut Stdio) -> Result<(), Failure>
     ensures { Ran result stdio.old.log stdio.new.log }
 {
     let mut chunk = [0u8; 16384];
-    // 16,384 bytes, and room for one answer more
-    let mut out = [0u8; 69633];
+    let mut out: Out = [0; 69633];
     let mut line = Line::new();
     for _ in 0..u64::MAX {
         match stdio.read_part(&mut chunk).map_err(Failure::Read)? {
