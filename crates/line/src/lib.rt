@@ -241,6 +241,8 @@ impl Lists<'_> {
 
     // Feeds the bytes from a place on, line after line, to the end of the bytes or until the list may have no room for one answer more; puts what is to
     // be printed, one answer after another.
+    // (`out` is a slice, and its room a `requires`: each line is lent the rest of it, and what an array that `first_chunk_mut` cuts out of such a rest
+    // leaves in the list is not known here.)
     pub fn gather(&self, line: &mut Line, bytes: &[u8], from: usize, out: &mut [u8]) -> Fed
         requires from_in_bounds { (from < length bytes.now) × (longest_line ≤ length out.old) }
         ensures from_lt_next { (from < result.next) × (result.next ≤ length bytes.now) }
@@ -271,8 +273,7 @@ impl Lists<'_> {
         ensures begins { (held : List ℕ) → Holds held line.now
             → Begins out.new (output_for self.now.states self.now.rows.now self.now.accepting.now self.now.names.now held) result }
     {
-        let n = line.len;
-        if n == 0 {
+        if line.len == 0 {
             return 0;
         }
         let mut tree = [0u16; 4096];
