@@ -21,7 +21,7 @@
 ghost use Rattle.std.specs.Prelude.{◌+◌, ◌*◌, ◌^◌, ◌<◌, length, IfSome, SomeIff};
 
 use model::Answer;
-use std::alloc::Global;
+use std::alloc::{AllocError, AllocFailed, Global};
 use std::io;
 use std::io::{BufWriter, Read, Write};
 
@@ -36,41 +36,169 @@ const LIST: usize = 66000;
 // The number with which a short form begins.
 const SHORT: u64 = 99999;
 
-// The list `k x1 .. xk` at the front of the numbers, and the numbers after it. Gives nothing where it is cut or too long, or an entry does not fit.
-fn split_list<T: TryFrom<u64> + Drop>(
-    alloc: Global,
-    numbers: &[u64],
-) -> io::Result<Option<(Vec<T>, &[u64])>>
-where
-    T::Error: Drop,
-{
-    let Some((k, after)) = numbers.split_first() else {
-        return Ok(None);
-    };
-    let Some((values, rest)) = after.split_at_checked(*k as usize) else {
-        return Ok(None);
-    };
-    if values.len() > LIST {
-        return Ok(None);
-    }
-    let mut list = Vec::with_capacity(alloc, values.len())?;
-    for x in values {
-        let Ok(entry) = T::try_from(*x) else {
-            return Ok(None);
-        };
-        list.push(entry)?;
-    }
-    Ok(Some((list, rest)))
+// Why a line is not answered: it is no case; or there is no memory, or a write failed.
+#[derive(Clone, Copy, Debug)]
+enum Stop {
+    NoCase,
+    Io(io::Error),
 }
 
-// The list that the numbers are, if there are no more.
-fn only_list<T: TryFrom<u64> + Drop>(alloc: Global, numbers: &[u64]) -> io::Result<Option<Vec<T>>>
-where
-    T::Error: Drop,
-{
-    match split_list(alloc, numbers)? {
-        Some((list, [])) => Ok(Some(list)),
-        _ => Ok(None),
+impl From<io::Error> for Stop {
+    fn from(error: io::Error) -> Stop {
+        Stop::Io(error)
+    }
+}
+
+impl From<AllocError> for Stop {
+    fn from(error: AllocError) -> Stop {
+        Stop::Io(error.into())
+    }
+}
+
+impl<T: Drop> From<AllocFailed<T>> for Stop {
+    fn from(failed: AllocFailed<T>) -> Stop {
+        Stop::Io(failed.into())
+    }
+}
+
+// The numbers of a case that are not read yet.
+#[derive(Clone, Copy)]
+struct Numbers<'a> {
+    rest: &'a [u64],
+}
+
+impl<'a> Numbers<'a> {
+    fn number(&mut self) -> Result<u64, Stop> {
+        let (number, rest) = self.rest.split_first().ok_or(Stop::NoCase)?;
+        self.rest = rest;
+        Ok(*number)
+    }
+
+    // The list `k x1 .. xk`, of entries that fit.
+    fn list<T: TryFrom<u64> + Drop>(&mut self, alloc: Global) -> Result<Vec<T>, Stop>
+    where
+        T::Error: Drop,
+    {
+        let k = self.number()? as usize;
+        let (values, rest) = self.rest.split_at_checked(k).ok_or(Stop::NoCase)?;
+        if values.len() > LIST {
+            return Err(Stop::NoCase);
+        }
+        self.rest = rest;
+        values
+            .iter()
+            .map(|x| T::try_from(*x))
+            .collect::<Result<Vec<T>, T::Error>>(alloc)?
+            .map_err(|_| Stop::NoCase)
+    }
+
+    fn table(&mut self, alloc: Global) -> Result<Table, Stop> {
+        Ok(Table {
+            states: self.number()?,
+            rows: self.list(alloc)?,
+            accepting: self.list(alloc)?,
+        })
+    }
+
+    // There are no more.
+    fn end(self) -> Result<(), Stop> {
+        if self.rest.is_empty() {
+            Ok(())
+        } else {
+            Err(Stop::NoCase)
+        }
+    }
+}
+
+#[derive(Drop)]
+struct Table {
+    states: u64,
+    rows: Vec<u16>,
+    accepting: Vec<u16>,
+}
+
+// An operation with what it is given, a lent list last.
+#[derive(Drop)]
+enum Case {
+    Check(Table),
+    Number(Table, Vec<u16>),
+    Write(Table, u64, Vec<u16>),
+    ReadTerm(Vec<u8>, Vec<u8>, Vec<u16>),
+    WriteTerm(Vec<u8>, Vec<u16>, Vec<u8>),
+}
+
+impl Case {
+    // The case that the numbers are, their short forms written out.
+    fn read(alloc: Global, numbers: &[u64]) -> Result<Case, Stop> {
+        let mut numbers = Numbers { rest: numbers };
+        let case = match numbers.number()? {
+            1 => Case::Check(numbers.table(alloc)?),
+            2 => Case::Number(numbers.table(alloc)?, numbers.list(alloc)?),
+            3 => Case::Write(
+                numbers.table(alloc)?,
+                numbers.number()?,
+                numbers.list(alloc)?,
+            ),
+            4 => Case::ReadTerm(
+                numbers.list(alloc)?,
+                numbers.list(alloc)?,
+                numbers.list(alloc)?,
+            ),
+            5 => Case::WriteTerm(
+                numbers.list(alloc)?,
+                numbers.list(alloc)?,
+                numbers.list(alloc)?,
+            ),
+            _ => return Err(Stop::NoCase),
+        };
+        numbers.end()?;
+        Ok(case)
+    }
+
+    fn answer<W: Write>(self, out: &mut W) -> io::Result<()> {
+        match self {
+            Case::Check(t) => say(
+                out,
+                "total",
+                operations::check(t.states, t.rows.as_slice(), t.accepting.as_slice()),
+            ),
+            Case::Number(t, tree) => say(
+                out,
+                "result",
+                operations::number(
+                    t.states,
+                    t.rows.as_slice(),
+                    t.accepting.as_slice(),
+                    tree.as_slice(),
+                ),
+            ),
+            Case::Write(t, number, mut lent) => {
+                let answer = operations::write(
+                    t.states,
+                    t.rows.as_slice(),
+                    t.accepting.as_slice(),
+                    number,
+                    lent.as_mut_slice(),
+                );
+                say_lent(out, answer, lent.as_slice())
+            }
+            Case::ReadTerm(names, text, mut lent) => {
+                let answer = term::read_term(
+                    names.as_slice(),
+                    text.as_slice(),
+                    lent.as_mut_slice(),
+                );
+                say_lent(out, answer, lent.as_slice())
+            }
+            Case::WriteTerm(names, tree, mut lent) => {
+                let answer = term::write_term(
+                    names.as_slice(),
+                    tree.as_slice(),
+                    lent.as_mut_slice(),
+                );
+                say_lent(out, answer, lent.as_slice())
+            }
+        }
     }
 }
 
@@ -78,18 +206,19 @@ where
 fn say<W: Write>(out: &mut W, what: &str, answer: Answer) -> io::Result<()> {
     match answer {
         Ok(n) => write!(out, "{what} {n}"),
-        Err(r) => {
-            let number = model::kind_number(r.kind);
-            let place = r.place;
-            write!(out, "refused {number} {place}")
-        }
+        Err(refusal) => write!(out, "{refusal}"),
     }
 }
 
-// What a lent list holds after the answer: its entries or, if there are many, how many and their digest.
-fn say_list<T: Copy + Into<u16>, W: Write>(out: &mut W, list: &[T]) -> io::Result<()> {
-    let n = list.len();
+// An answer, and what the lent list holds after it: its entries or, if there are many, how many and their digest.
+fn say_lent<T: Copy + Into<u16>, W: Write>(
+    out: &mut W,
+    answer: Answer,
+    list: &[T],
+) -> io::Result<()> {
+    say(out, "result", answer)?;
     out.write_all(b";")?;
+    let n = list.len();
     if n <= 64 {
         for x in list {
             let entry: u16 = (*x).into();
@@ -97,174 +226,51 @@ fn say_list<T: Copy + Into<u16>, W: Write>(out: &mut W, list: &[T]) -> io::Resul
         }
         return Ok(());
     }
-    let mut digest: u64 = 0;
-    for x in list {
-        let entry: u16 = (*x).into();
-        digest = (digest % 4294967291 * 65599 + u64::from(entry)) % 4294967291;
-    }
+    let digest = list.iter().fold(0, |digest: u64, x| {
+        (digest % 4294967291 * 65599 + u64::from((*x).into())) % 4294967291
+    });
     write!(out, " {n} entries {digest}")
 }
 
-// The operations on a table.
+// Numbers that a line stands for: values that come in turn, over and over, until there are so many.
 #[derive(Clone, Copy)]
-enum OnTable {
-    Check,
-    Number,
-    Write,
+struct Run<'a> {
+    values: &'a [u64],
+    count: usize,
 }
 
-// The operations on terms.
-#[derive(Clone, Copy)]
-enum OnTerm {
-    Read,
-    Write,
-}
-
-// The functions from here to `answer_line` give false where the numbers are no case, and then print nothing.
-
-// Operations 1 to 3.
-fn answer_table<W: Write>(
-    alloc: Global,
-    out: &mut W,
-    operation: OnTable,
-    numbers: &[u64],
-) -> io::Result<bool> {
-    let Some((states, rest)) = numbers.split_first() else {
-        return Ok(false);
-    };
-    let Some((rows, rest)) = split_list::<u16>(alloc, rest)? else {
-        return Ok(false);
-    };
-    let Some((accepting, rest)) = split_list::<u16>(alloc, rest)? else {
-        return Ok(false);
-    };
-    let states = *states;
-    let rows = rows.as_slice();
-    let accepting = accepting.as_slice();
-    match operation {
-        OnTable::Check => {
-            if !rest.is_empty() {
-                return Ok(false);
-            }
-            say(out, "total", operations::check(states, rows, accepting))?;
-        }
-        OnTable::Number => {
-            let Some(tree) = only_list::<u16>(alloc, rest)? else {
-                return Ok(false);
-            };
-            let answer = operations::number(states, rows, accepting, tree.as_slice());
-            say(out, "result", answer)?;
-        }
-        OnTable::Write => {
-            let Some((number, rest)) = rest.split_first() else {
-                return Ok(false);
-            };
-            let Some(mut lent) = only_list::<u16>(alloc, rest)? else {
-                return Ok(false);
-            };
-            let answer = operations::write(states, rows, accepting, *number, lent.as_mut_slice());
-            say(out, "result", answer)?;
-            say_list(out, lent.as_slice())?;
-        }
-    }
-    Ok(true)
-}
-
-// Operations 4 and 5.
-fn answer_term<W: Write>(
-    alloc: Global,
-    out: &mut W,
-    operation: OnTerm,
-    numbers: &[u64],
-) -> io::Result<bool> {
-    let Some((names, rest)) = split_list::<u8>(alloc, numbers)? else {
-        return Ok(false);
-    };
-    let names = names.as_slice();
-    match operation {
-        OnTerm::Read => {
-            let Some((text, rest)) = split_list::<u8>(alloc, rest)? else {
-                return Ok(false);
-            };
-            let Some(mut lent) = only_list::<u16>(alloc, rest)? else {
-                return Ok(false);
-            };
-            let answer = term::read_term(names, text.as_slice(), lent.as_mut_slice());
-            say(out, "result", answer)?;
-            say_list(out, lent.as_slice())?;
-        }
-        OnTerm::Write => {
-            let Some((tree, rest)) = split_list::<u16>(alloc, rest)? else {
-                return Ok(false);
-            };
-            let Some(mut lent) = only_list::<u8>(alloc, rest)? else {
-                return Ok(false);
-            };
-            let answer = term::write_term(names, tree.as_slice(), lent.as_mut_slice());
-            say(out, "result", answer)?;
-            say_list(out, lent.as_slice())?;
-        }
-    }
-    Ok(true)
-}
-
-// A case, its short forms written out.
-fn answer_case<W: Write>(alloc: Global, out: &mut W, numbers: &[u64]) -> io::Result<bool> {
-    match numbers {
-        [1, rest @ ..] => answer_table(alloc, out, OnTable::Check, rest),
-        [2, rest @ ..] => answer_table(alloc, out, OnTable::Number, rest),
-        [3, rest @ ..] => answer_table(alloc, out, OnTable::Write, rest),
-        [4, rest @ ..] => answer_term(alloc, out, OnTerm::Read, rest),
-        [5, rest @ ..] => answer_term(alloc, out, OnTerm::Write, rest),
-        _ => Ok(false),
-    }
-}
-
-// What stands at the front of a line: how many numbers it stands for, their values, which come in turn over and over, and the rest of the
-// line. Gives nothing where the line is empty, or a short form is cut or has no values.
-fn split_run(line: &[u64]) -> Option<(usize, &[u64], &[u64])>
-    ensures { IfSome result (λ r. (0 < length r.1.now) × (length r.2.now < length line.now)) }
+// What stands at the front of a line, and the rest of the line. Gives nothing where the line is empty, or a short form is cut or has no values.
+fn split_run(line: &[u64]) -> Option<(Run, &[u64])>
+    ensures { IfSome result (λ r. (0 < length r.0.values.now) × (length r.1.now < length line.now)) }
 {
-    if let [SHORT, after @ ..] = line {
-        let [count, k, rest @ ..] = after else {
-            return None;
-        };
-        if *k == 0 {
-            return None;
+    match line {
+        [SHORT, count, k, rest @ ..] if 0 < *k => {
+            let (values, rest) = rest.split_at_checked(*k as usize)?;
+            let count = *count as usize;
+            Some((Run { values, count }, rest))
         }
-        let (values, rest) = rest.split_at_checked(*k as usize)?;
-        return Some((*count as usize, values, rest));
+        [] | [SHORT, ..] => None,
+        _ => {
+            let (values, rest) = line.split_at(1);
+            Some((Run { values, count: 1 }, rest))
+        }
     }
-    let (value, rest) = line.split_at_checked(1)?;
-    Some((1, value, rest))
 }
 
-// The numbers of a line, the short forms written out. Gives nothing where they cannot be.
-fn write_out(alloc: Global, line: &[u64]) -> io::Result<Option<Vec<u64>>> {
+// The numbers of a line, the short forms written out.
+fn write_out(alloc: Global, line: &[u64]) -> Result<Vec<u64>, Stop> {
     let mut numbers = Vec::new(alloc);
     let (first, mut rest) = line.split_at(line.len().min(2));
     numbers.extend_from_slice(first)?;
     while !rest.is_empty() {
-        let Some((count, values, after)) = split_run(rest) else {
-            return Ok(None);
-        };
-        if count > WHOLE.saturating_sub(numbers.len()) {
-            return Ok(None);
+        let (run, after) = split_run(rest).ok_or(Stop::NoCase)?;
+        if run.count > WHOLE.saturating_sub(numbers.len()) {
+            return Err(Stop::NoCase);
         }
-        for i in 0..count {
-            numbers.push(values[i % values.len()])?;
-        }
+        numbers.extend(run.values.iter().cycle().take(run.count))?;
         rest = after;
     }
-    Ok(Some(numbers))
-}
-
-// A line of numbers.
-fn answer_line<W: Write>(alloc: Global, out: &mut W, line: &[u64]) -> io::Result<bool> {
-    match write_out(alloc, line)? {
-        Some(numbers) => answer_case(alloc, out, numbers.as_slice()),
-        None => Ok(false),
-    }
+    Ok(numbers)
 }
 
 // The number with one decimal digit more, if it fits.
@@ -292,6 +298,10 @@ impl Line {
         }
     }
 
+    fn is_empty(&self) -> bool {
+        self.open.is_none() && self.numbers.as_ref().is_some_and(|n| n.is_empty())
+    }
+
     // A byte more, which is to be a digit.
     fn add(&mut self, b: u8) {
         self.open = if b.is_ascii_digit() {
@@ -305,80 +315,88 @@ impl Line {
     }
 
     // The number that is being read ends here.
-    fn close(&mut self) -> io::Result<()> {
+    fn close(&mut self) -> Result<(), AllocError> {
         match (self.open.take(), &mut self.numbers) {
             (Some(n), Some(numbers)) if numbers.len() < ROOM => numbers.push(n)?,
             _ => self.numbers = None,
         }
         Ok(())
     }
+}
 
-    // The line ends here, and is answered.
-    fn end<W: Write>(mut self, alloc: Global, out: &mut W) -> io::Result<()> {
-        self.close()?;
-        let is_case = match &self.numbers {
-            Some(numbers) => answer_line(alloc, out, numbers.as_slice())?,
-            None => false,
-        };
-        if is_case {
-            out.write_all(b"\n")
-        } else {
-            out.write_all(b"bad line\n")
+// The input's lines, each answered where it ends.
+#[derive(Drop)]
+struct Lines<W> {
+    alloc: Global,
+    out: W,
+    line: Line,
+}
+
+impl<W: Write> Lines<W> {
+    fn new(alloc: Global, out: W) -> Lines<W> {
+        Lines {
+            alloc,
+            out,
+            line: Line::new(alloc),
         }
     }
 
-    // A byte more.
-    fn feed<W: Write>(mut self, alloc: Global, out: &mut W, b: u8) -> io::Result<Line> {
-        match b {
-            b'\n' => {
-                self.end(alloc, out)?;
-                return Ok(Line::new(alloc));
-            }
-            b' ' => self.close()?,
-            _ => self.add(b),
+    // The answer to the line.
+    fn answer(&mut self) -> Result<(), Stop> {
+        let line = self.line.numbers.as_ref().ok_or(Stop::NoCase)?;
+        let numbers = write_out(self.alloc, line.as_slice())?;
+        Case::read(self.alloc, numbers.as_slice())?.answer(&mut self.out)?;
+        Ok(())
+    }
+
+    // The line ends here.
+    fn end(&mut self) -> io::Result<()> {
+        self.line.close()?;
+        match self.answer() {
+            Ok(()) => self.out.write_all(b"\n")?,
+            Err(Stop::NoCase) => self.out.write_all(b"bad line\n")?,
+            Err(Stop::Io(error)) => return Err(error),
         }
-        Ok(self)
+        self.line = Line::new(self.alloc);
+        Ok(())
+    }
+
+    // More bytes.
+    fn feed(&mut self, bytes: &[u8]) -> io::Result<()> {
+        for b in bytes {
+            match *b {
+                b'\n' => self.end()?,
+                b' ' => self.line.close()?,
+                b => self.line.add(b),
+            }
+        }
+        Ok(())
     }
 
     // No byte more. A line of no bytes is none.
-    fn last<W: Write>(self, alloc: Global, out: &mut W) -> io::Result<()> {
-        if let (None, Some(numbers)) = (self.open, &self.numbers) {
-            if numbers.is_empty() {
-                return Ok(());
-            }
+    fn last(&mut self) -> io::Result<()> {
+        if self.line.is_empty() {
+            Ok(())
+        } else {
+            self.end()
         }
-        self.end(alloc, out)
     }
-}
-
-// The bytes of one read.
-fn feed_all<W: Write>(
-    alloc: Global,
-    out: &mut W,
-    mut line: Line,
-    bytes: &[u8],
-) -> io::Result<Line> {
-    for b in bytes {
-        line = line.feed(alloc, out, *b)?;
-    }
-    Ok(line)
 }
 
 // The answers to the lines that a read ends are written before the next read.
 fn main(rt: HostRuntime) -> io::Result<()> {
     let alloc = rt.alloc();
     let mut input = rt.stdin();
-    let mut out = BufWriter::new(alloc, rt.stdout())?;
+    let mut lines = Lines::new(alloc, BufWriter::new(alloc, rt.stdout())?);
     let mut bytes = [0u8; 65536];
-    let mut line = Line::new(alloc);
     for _ in 0..u64::MAX {
         let n = input.read(&mut bytes)?;
         if n == 0 {
-            line.last(alloc, &mut out)?;
-            return out.flush();
+            lines.last()?;
+            return lines.out.flush();
         }
-        line = feed_all(alloc, &mut out, line, &bytes[..n])?;
-        out.flush()?;
+        lines.feed(&bytes[..n])?;
+        lines.out.flush()?;
     }
     Ok(())
 }
@@ -390,10 +408,10 @@ mod tests {
 
     // What is printed for an input.
     fn printed(alloc: Global, input: &[u8]) -> io::Result<Vec<u8>> {
-        let mut out = Vec::new(alloc);
-        let line = feed_all(alloc, &mut out, Line::new(alloc), input)?;
-        line.last(alloc, &mut out)?;
-        Ok(out)
+        let mut lines = Lines::new(alloc, Vec::new(alloc));
+        lines.feed(input)?;
+        lines.last()?;
+        Ok(lines.out)
     }
 
     #[test]

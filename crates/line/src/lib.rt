@@ -3,13 +3,11 @@
 
 ghost use Rattle.std.specs.Prelude.{◌≡◌, true, List, [], ◌∷◌, ◌++◌, ℕ, ◌+◌, ◌<◌, ◌≤◌, length, ltb, if◌then◌else◌};
 ghost use Rattle.model.specs.Answers.{refused_by};
-ghost use Rattle.model.specs.Number.{number_outcome};
-ghost use Rattle.model.specs.TermOperations.{bytes_of, write_term_outcome};
 ghost use Rattle.term.specs.Written.{Put};
 ghost use Rattle.line.specs.Lines.{decimal, printed, answer_number, answer_term, answer_to, output_for};
-ghost use Rattle.line.specs.Held.{no_end, with_digit, with_digits, longest_line, Holding, Begins, part};
+ghost use Rattle.line.specs.Held.{no_end, with_digit, with_digits, longest_line, Holding, Begins, Answers, part};
 
-use model::{Answer, Kind, Refusal};
+use model::{Kind, Refusal};
 use term::put_bytes;
 
 // What a program answers by: a table and a names list.
@@ -35,7 +33,7 @@ pub struct Line {
 }
 
 // After bytes were fed: the place of the next byte to feed, and how many bytes are to be printed.
-#[derive(Clone, Copy)]
+#[derive(Clone, Copy, PartialEq, Eq, Debug)]
 pub struct Fed {
     pub next: usize,
     pub count: usize,
@@ -117,8 +115,7 @@ fn put_decimal(n: u64, mark: u8, at: usize, out: &mut [u8]) -> usize
 }
 
 // Puts the output line of a number at the front of `out`; gives its length.
-fn put_number(n: u64, out: &mut [u8]) -> usize
-    requires { longest_line ≤ length out.old }
+fn put_number(n: u64, out: &mut [u8; LONGEST_LINE]) -> usize
     ensures { Begins out.new (decimal n ++ 10 ∷ []) result }
 {
     put_decimal(n, b'\n', 0, out)
@@ -126,8 +123,7 @@ fn put_number(n: u64, out: &mut [u8]) -> usize
 
 // Puts the output line of a refusal: its number and its place.
 // (By hand: what the list then holds is promised, and no clause knows which bytes `write!` leaves in a slice.)
-fn put_refusal(r: Refusal, out: &mut [u8]) -> usize
-    requires { longest_line ≤ length out.old }
+fn put_refusal(r: Refusal, out: &mut [u8; LONGEST_LINE]) -> usize
     ensures { Begins out.new (printed (refused_by r) decimal) result }
 {
     let number = u64::from(model::kind_number(r.kind));
@@ -137,82 +133,75 @@ fn put_refusal(r: Refusal, out: &mut [u8]) -> usize
     put_decimal(place, b'\n', b, out)
 }
 
-// Puts the output line of a tree: its term.
-fn put_term(names: &[u8], tree: &[u16], out: &mut [u8]) -> usize
-    requires { longest_line ≤ length out.old }
-    ensures { Begins out.new
-        (printed (write_term_outcome names.now tree.now (length (bytes_of names.now tree.now)))
-        (λ count. bytes_of names.now tree.now)) result }
-{
-    match term::write_term(names, tree, out) {
-        Ok(count) => {
-            let n = count as usize;
-            out[n] = b'\n';
-            n + 1
-        }
-        Err(r) => put_refusal(r, out),
-    }
-}
-
 impl Lists<'_> {
     ghost use Rattle.line.specs.Feeding.{Holds, Prints};
 
-    // Puts the output line that answers a number; the tree is written into `tree`.
-    fn answer_number(&self, number: u64, tree: &mut [u16], out: &mut [u8]) -> usize
-        requires tree_len { length tree.old ≡ 4096 }
-        requires longest_line_in_bounds { longest_line ≤ length out.old }
-        ensures { Begins out.new (answer_number self.now.states self.now.rows.now self.now.accepting.now self.now.names.now number) result }
+    // Puts the output line that answers a number, its term, unless there is a refusal; the number's tree is written into `tree`.
+    fn answer_number(
+        &self,
+        number: u64,
+        tree: &mut [u16; 4096],
+        out: &mut [u8; LONGEST_LINE],
+    ) -> Result<usize, Refusal>
+        ensures { Answers out.new (answer_number self.now.states self.now.rows.now self.now.accepting.now self.now.names.now number) result }
     {
-        match operations::write(self.states, self.rows, self.accepting, number, tree) {
-            Ok(count) => {
-                let n = count as usize;
-                put_term(self.names, &tree[..n], out)
-            }
-            Err(r) => put_refusal(r, out),
-        }
+        let count = operations::write(
+            self.states,
+            self.rows,
+            self.accepting,
+            number,
+            tree,
+        )? as usize;
+        let end = term::write_term(self.names, &tree[..count], out)? as usize;
+        out[end] = b'\n';
+        Ok(end + 1)
     }
 
-    // Puts the output line of a tree's number.
-    fn answer_tree(&self, tree: &[u16], out: &mut [u8]) -> usize
+    // Puts the output line that answers a term, its number, unless there is a refusal; the term's tree is read into `tree`.
+    fn answer_term(
+        &self,
+        text: &[u8],
+        tree: &mut [u16; 4096],
+        out: &mut [u8; LONGEST_LINE],
+    ) -> Result<usize, Refusal>
+        ensures { Answers out.new (answer_term self.now.states self.now.rows.now self.now.accepting.now self.now.names.now text.now) result }
+    {
+        let count = term::read_term(self.names, text, tree)? as usize;
+        let number = operations::number(self.states, self.rows, self.accepting, &tree[..count])?;
+        Ok(put_number(number, out))
+    }
+
+    // Puts the output line that answers an input line, unless there is a refusal; `tree` is a list to work in.
+    fn answer_line(
+        &self,
+        line: &Line,
+        tree: &mut [u16; 4096],
+        out: &mut [u8; LONGEST_LINE],
+    ) -> Result<usize, Refusal>
+        ensures { (held : List ℕ) → Holds held line.now
+            → Answers out.new (answer_to self.now.states self.now.rows.now self.now.accepting.now self.now.names.now held) result }
+    {
+        if let Some(number) = line.number_of() {
+            return self.answer_number(number, tree, out);
+        }
+        if 4096 < line.len {
+            return Err(Refusal::new(Kind::TextTooLong, 0));
+        }
+        self.answer_term(&line.text[..line.len], tree, out)
+    }
+
+    // Puts the output line that answers an input line, a refusal too.
+    fn answer(&self, line: &Line, tree: &mut [u16; 4096], out: &mut [u8]) -> usize
         requires { longest_line ≤ length out.old }
-        ensures { Begins out.new (printed (number_outcome self.now.states self.now.rows.now self.now.accepting.now tree.now) decimal) result }
-    {
-        match operations::number(self.states, self.rows, self.accepting, tree) {
-            Ok(number) => put_number(number, out),
-            Err(r) => put_refusal(r, out),
-        }
-    }
-
-    // Puts the output line that answers a term; the tree is read into `tree`.
-    fn answer_term(&self, text: &[u8], tree: &mut [u16], out: &mut [u8]) -> usize
-        requires tree_len { length tree.old ≡ 4096 }
-        requires longest_line_in_bounds { longest_line ≤ length out.old }
-        ensures { Begins out.new (answer_term self.now.states self.now.rows.now self.now.accepting.now self.now.names.now text.now) result }
-    {
-        match term::read_term(self.names, text, tree) {
-            Ok(count) => {
-                let n = count as usize;
-                self.answer_tree(&tree[..n], out)
-            }
-            Err(r) => put_refusal(r, out),
-        }
-    }
-
-    // Puts the output line that answers an input line; `tree` is a list to work in.
-    fn answer(&self, line: &Line, tree: &mut [u16], out: &mut [u8]) -> usize
-        requires tree_len { (length tree.old ≡ 4096) × (longest_line ≤ length out.old) }
         ensures within { result ≤ length out.new }
         ensures begins { (held : List ℕ) → Holds held line.now
             → Begins out.new (answer_to self.now.states self.now.rows.now self.now.accepting.now self.now.names.now held) result }
     {
-        let n = line.len;
-        if let Some(number) = line.number_of() {
-            return self.answer_number(number, tree, out);
+        let room = out.first_chunk_mut().unwrap();
+        match self.answer_line(line, tree, room) {
+            Ok(count) => count,
+            Err(refusal) => put_refusal(refusal, room),
         }
-        if 4096 < n {
-            return put_refusal(Refusal::new(Kind::TextTooLong, 0), out);
-        }
-        self.answer_term(&line.text[..n], tree, out)
     }
 
     // Feeds the bytes from a place on, up to the end of a line or of the bytes. Where a line has ended, puts the output line that answers
@@ -222,10 +211,10 @@ impl Lists<'_> {
         line: &mut Line,
         bytes: &[u8],
         from: usize,
-        tree: &mut [u16],
+        tree: &mut [u16; 4096],
         out: &mut [u8],
     ) -> Fed
-        requires from_in_bounds { (from < length bytes.now) × (length tree.old ≡ 4096) × (longest_line ≤ length out.old) }
+        requires from_in_bounds { (from < length bytes.now) × (longest_line ≤ length out.old) }
         ensures from_lt_next { (from < result.next) × (result.next ≤ length bytes.now) }
         ensures within { result.count ≤ length out.new }
         ensures by_index { (held : List ℕ) → Holds held line.old
@@ -252,6 +241,8 @@ impl Lists<'_> {
 
     // Feeds the bytes from a place on, line after line, to the end of the bytes or until the list may have no room for one answer more; puts what is to
     // be printed, one answer after another.
+    // (`out` is a slice, and its room a `requires`: each line is lent the rest of it, and what an array that `first_chunk_mut` cuts out of such a rest
+    // leaves in the list is not known here.)
     pub fn gather(&self, line: &mut Line, bytes: &[u8], from: usize, out: &mut [u8]) -> Fed
         requires from_in_bounds { (from < length bytes.now) × (longest_line ≤ length out.old) }
         ensures from_lt_next { (from < result.next) × (result.next ≤ length bytes.now) }
@@ -282,8 +273,7 @@ impl Lists<'_> {
         ensures begins { (held : List ℕ) → Holds held line.now
             → Begins out.new (output_for self.now.states self.now.rows.now self.now.accepting.now self.now.names.now held) result }
     {
-        let n = line.len;
-        if n == 0 {
+        if line.len == 0 {
             return 0;
         }
         let mut tree = [0u16; 4096];

@@ -1,14 +1,14 @@
-// Standard input and standard output, with a log of what goes through them. A program that reads and writes by this crate alone lends it one
-// number, the digest of its log, and its contracts can then speak of the log.
+// Standard input and standard output, with a log of what goes through them: the handle `Stdio` keeps the digest of its log, and contracts can then
+// speak of the log. Outside of this crate no code can set that number, and only `read_part` and `write_part` change it.
 //
 // No contract says what the system read or wrote. So this is to be read here: that `read_part` makes one read, of standard input, and
 // `write_part` hands its part once to a write of all of it, to standard output (`Write::write_all`), neither with a buffer; which answers are a
-// failure; and that what is said goes to standard error. And of a program: that it keeps one log, and changes it only by lending it to these two.
+// failure; and that what is said goes to standard error. And of a program: that it makes one `Stdio`, and reads and writes by it alone.
 #![tactic(auto)]
 
-ghost use Rattle.std.specs.Prelude.{◌≡◌, ◌<◌, ℕ, length, map};
+ghost use Rattle.std.specs.Prelude.{◌≡◌, ◌∷◌, ◌<◌, ℕ, [], length, map};
 ghost use Rattle.streams.specs.declared.Entry.{Entry};
-ghost use Rattle.streams.specs.Log.{entry_number, with_entry, digest_after};
+ghost use Rattle.streams.specs.Log.{entry_number, with_entry, digest_after, Logged};
 ghost use Rattle.streams.specs.Parts.{Took, Wrote};
 
 use std::fmt::Display;
@@ -16,22 +16,13 @@ use std::io::{Read, Stderr, Stdin, Stdout, Write};
 use std::str::from_utf8;
 use std::{fmt, io};
 
-// The standard streams of the process.
+// The standard streams of the process, and the digest of the log of what went through them.
 #[derive(Drop)]
 pub struct Stdio {
     input: Stdin,
     output: Stdout,
     errors: Stderr,
-}
-
-impl Stdio {
-    pub fn new(rt: HostRuntime) -> Stdio {
-        Stdio {
-            input: rt.stdin(),
-            output: rt.stdout(),
-            errors: rt.stderr(),
-        }
-    }
+    log: u64,
 }
 
 // An entry of the log.
@@ -82,39 +73,65 @@ fn with_bytes<F: Fn(u8) -> Entry + Drop>(digest: u64, bytes: &[u8], entry: F) ->
     d
 }
 
-// One read of standard input, into the part: how many bytes then stand at its front, or nothing where the input has ended.
-pub fn read_part(stdio: &mut Stdio, log: &mut u64, part: &mut [u8]) -> io::Result<Option<usize>>
-    requires { 0 < length part.old }
-    ensures { Took log.old log.new part.new result }
-{
-    match stdio.input.read(part) {
-        Ok(0) => {
-            *log = with_entry(*log, Entry::EndOfInput);
-            Ok(None)
-        }
-        Ok(n) => {
-            let read = with_bytes(*log, &part[..n], Entry::ByteRead);
-            *log = with_entry(read, Entry::ReadReturned);
-            Ok(Some(n))
-        }
-        Err(reason) => {
-            *log = with_entry(*log, Entry::ReadFailed);
-            Err(reason)
+impl Stdio {
+    // With nothing in the log.
+    pub fn new(rt: HostRuntime) -> Stdio
+        ensures { result.log ≡ 0 }
+    {
+        Stdio {
+            input: rt.stdin(),
+            output: rt.stdout(),
+            errors: rt.stderr(),
+            log: 0,
         }
     }
-}
 
-// Writes the part to standard output, all of it.
-pub fn write_part(stdio: &mut Stdio, log: &mut u64, part: &[u8]) -> io::Result<()>
-    ensures { Wrote log.old log.new part.now result }
-{
-    *log = with_bytes(*log, part, Entry::ByteWritten);
-    match stdio.output.write_all(part) {
-        Ok(()) => Ok(()),
-        Err(reason) => {
-            *log = with_entry(*log, Entry::WriteFailed);
-            Err(reason)
+    // Adds an entry to the log.
+    #[tactic(auto, unfolding(crate::specs::Log::digest_after))]
+    fn add(&mut self, entry: Entry)
+        ensures { Logged self.old.log self.new.log (entry ∷ []) }
+    {
+        self.log = with_entry(self.log, entry);
+    }
+
+    // One read of standard input, into the part: how many bytes then stand at its front, or nothing where the input has ended.
+    pub fn read_part(&mut self, part: &mut [u8]) -> io::Result<Option<usize>>
+        requires { 0 < length part.old }
+        ensures { Took self.old.log self.new.log part.new result }
+    {
+        match self.input.read(part) {
+            Ok(0) => {
+                self.add(Entry::EndOfInput);
+                Ok(None)
+            }
+            Ok(n) => {
+                self.log = with_bytes(self.log, &part[..n], Entry::ByteRead);
+                self.add(Entry::ReadReturned);
+                Ok(Some(n))
+            }
+            Err(reason) => {
+                self.add(Entry::ReadFailed);
+                Err(reason)
+            }
         }
+    }
+
+    // Writes the part to standard output, all of it.
+    pub fn write_part(&mut self, part: &[u8]) -> io::Result<()>
+        ensures { Wrote self.old.log self.new.log part.now result }
+    {
+        self.log = with_bytes(self.log, part, Entry::ByteWritten);
+        if let Err(reason) = self.output.write_all(part) {
+            self.add(Entry::WriteFailed);
+            return Err(reason);
+        }
+        Ok(())
+    }
+
+    // Says a line on standard error.
+    pub fn say(&self, line: impl Display + Drop) {
+        let mut errors = self.errors;
+        let _ = writeln!(errors, "{line}");
     }
 }
 
@@ -135,10 +152,4 @@ impl Display for Reason {
                 .map_or(words, |(before, _)| before),
         )
     }
-}
-
-// Says a line on standard error.
-pub fn say(stdio: &Stdio, line: impl Display + Drop) {
-    let mut errors = stdio.errors;
-    let _ = writeln!(errors, "{line}");
 }

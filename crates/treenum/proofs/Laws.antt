@@ -10,7 +10,7 @@ use Rattle.line.specs.Held.{Begins, part, held_after, put_for}
 use Rattle.line.specs.Feeding.{Holds}
 use Rattle.line.specs.declared.Line.{Line}
 use Rattle.line.proofs.Output.{held_more, put_more}
-use Rattle.std.specs.Prelude.{Bool, true, false, Some, None, Result, Ok, Err, IsErr, IsErrAnd, MatchResult}
+use Rattle.std.specs.Prelude.{Some, None, Result, Ok, Err, IsErr, IsErrAnd, MatchResult}
 use Rattle.std.specs.declared.io.Error.{Error}
 use Rattle.streams.specs.declared.Entry.{Entry}
 use Rattle.streams.specs.declared.Entry.TheVariants.{ByteWritten, EndOfInput, ReadFailed, WriteFailed}
@@ -18,7 +18,7 @@ use Rattle.streams.specs.Log.{Logged}
 use Rattle.streams.specs.Parts.{OfBytes, one_read, writes, Took, Wrote}
 use Rattle.streams.proofs.Laws.{logged_none, logged_both}
 use Rattle.treenum.specs.Treenum.{printed_for, put_after, PrintsLine}
-use Rattle.treenum.specs.Run.{log_of, Parts, at_end, after_read, has_ended, Feeds, TakesPart, Stops, Turned, Ran}
+use Rattle.treenum.specs.Run.{log_of, Parts, at_end, after_read, has_ended, Feeds, TakesPart, Stops, Ran}
 use Rattle.treenum.specs.declared.Failure.{Failure}
 use Rattle.treenum.specs.declared.Failure.TheVariants.{Read, Write, TooManyReads}
 
@@ -109,29 +109,32 @@ module _ (before between : ℕ) (chunk : List ℕ) where
       logged = logged_both before (one_read (f.fed ++ f.rest)) (writes (put_after held f.fed) ++ WriteFailed ∷ []) (rw f.split at t.3) f.logged;
     }
 
-  module _ (t : Took before between chunk (Ok None)) (held : List ℕ) (after reads : ℕ) where
-    pub turned_done : Wrote between after (printed_for held) (Ok tt) → Stops reads held (Ok tt) before after
-    turned_done w = record {
-      tail = at_end held;
-      ends = refl;
-      logged = logged_both before (EndOfInput ∷ []) (writes (printed_for held)) t (rw (append-nil (writes (printed_for held))) at w);
-    }
-
-    pub turned_late : (reason : Error) → Wrote between after (printed_for held) (Err reason) → Stops reads held (Err (Write reason)) before after
-    turned_late reason w = record {
-      tail = at_end held ++ WriteFailed ∷ [];
-      ends = has_ended refl;
-      logged = logged_both before (EndOfInput ∷ []) (writes (printed_for held) ++ WriteFailed ∷ []) t w;
-    }
+  -- what was due at the end is written, or the write fails
+  pub turned_last : Took before between chunk (Ok None) → (held : List ℕ) (after reads : ℕ) (written : Result Unit Error) → Wrote between after (printed_for held) written
+      → (r : Result Unit Failure) → MatchResult written (λ y. r ≡ Ok y) (λ e. IsErrAnd r (λ d. d ≡ Write e)) → Stops reads held r before after
+  turned_last t held after reads (Ok y) w r m =
+      rw m
+      (record {
+        tail = at_end held;
+        ends = refl;
+        logged = logged_both before (EndOfInput ∷ []) (writes (printed_for held)) t (rw (append-nil (writes (printed_for held))) at w);
+      })
+  turned_last t held after reads (Err reason) w (Ok y) m = absurd m
+  turned_last t held after reads (Err reason) w (Err d) m =
+      rw m
+      (record {
+        tail = at_end held ++ WriteFailed ∷ [];
+        ends = has_ended refl;
+        logged = logged_both before (EndOfInput ∷ []) (writes (printed_for held) ++ WriteFailed ∷ []) t w;
+      })
 
   pub turned_unread : (reads : ℕ) (held : List ℕ) (reason : Error) → Took before between chunk (Err reason) → Stops reads held (Err (Read reason)) before between
   turned_unread reads held reason t = record { tail = ReadFailed ∷ []; ends = refl; logged = t }
 
--- a failure is passed on
-pub turned_failed : (reads : ℕ) (held : List ℕ) (line : Line) (before after : ℕ) (failure : Failure) → Stops reads held (Err failure) before after
-    → (r : Result Bool Failure) → IsErrAnd r (λ e. e ≡ failure) → Turned reads held r line before after
-turned_failed reads held line before after failure s (Ok l) e = absurd e
-turned_failed reads held line before after failure s (Err f) e = rw e s
+-- what `?` gives on
+pub given_on : (before after : ℕ) (failure : Failure) → Ran (Err failure) before after → (r : Result Unit Failure) → IsErrAnd r (λ e. e ≡ failure) → Ran r before after
+given_on before after failure s (Ok l) e = absurd e
+given_on before after failure s (Err f) e = rw e s
 
 -- ---- the run
 
@@ -168,31 +171,25 @@ log_more held (q ∷ parts) p =
     ∙ ap (λ (h : List ℕ). ((one_read q ++ writes (put_after held q)) ++ log_of (held_after held q) parts) ++ (one_read p ++ writes (put_after h p))) (sym (held_more held q (flatten parts)))
 
 module _ {before : ℕ} {line : Line} {log reads : ℕ} (s : SoFar before line log reads) where
-  module _ (line' : Line) (log' : ℕ) (r : Result Bool Failure) (f : (reads : ℕ) (held : List ℕ) → Holds held line → Turned reads held r line' log log') where
-    pub so_far_more : r ≡ Ok true → SoFar before line' log' (reads + 1)
-    so_far_more e =
-        let t : Turned 0 (held_after [] (flatten s.parts)) (Ok true) line' log log' = rw e at (f 0 (held_after [] (flatten s.parts)) s.holds) in
-        record {
-          parts = s.parts ++ t.bytes ∷ [];
-          of_parts = parts_more s.parts t.bytes s.of_parts t.of_part;
-          holds = rw (flatten_more s.parts t.bytes, held_more [] (flatten s.parts) t.bytes) t.holds;
-          logged = rw (log_more [] s.parts t.bytes) (logged_both before (log_of [] s.parts) (one_read t.bytes ++ writes (put_after (held_after [] (flatten s.parts)) t.bytes)) s.logged t.logged);
-          counted = let k : length (s.parts ++ t.bytes ∷ []) ≡ length s.parts + 1 = length-append s.parts (t.bytes ∷ []) in omega (arith, k, s.counted);
-        }
+  pub so_far_more : (line' : Line) (log' : ℕ) → ((held : List ℕ) → Holds held line → TakesPart held line' log log') → SoFar before line' log' (reads + 1)
+  so_far_more line' log' f =
+      let t = f (held_after [] (flatten s.parts)) s.holds in
+      record {
+        parts = s.parts ++ t.bytes ∷ [];
+        of_parts = parts_more s.parts t.bytes s.of_parts t.of_part;
+        holds = rw (flatten_more s.parts t.bytes, held_more [] (flatten s.parts) t.bytes) t.holds;
+        logged = rw (log_more [] s.parts t.bytes) (logged_both before (log_of [] s.parts) (one_read t.bytes ++ writes (put_after (held_after [] (flatten s.parts)) t.bytes)) s.logged t.logged);
+        counted = let k : length (s.parts ++ t.bytes ∷ []) ≡ length s.parts + 1 = length-append s.parts (t.bytes ∷ []) in omega (arith, k, s.counted);
+      }
 
-    stopped : (ending : Result Unit Failure) → Stops (length s.parts) (held_after [] (flatten s.parts)) ending log log' → Ran ending before log'
-    stopped ending t = record {
-      log = log_of [] s.parts ++ t.tail;
-      is_run = record { parts = s.parts; of_parts = s.of_parts; tail = t.tail; whole = refl; ends = t.ends };
-      logged = logged_both before (log_of [] s.parts) t.tail s.logged t.logged;
-    }
-
-    pub so_far_done : r ≡ Ok false → Ran (Ok tt) before log'
-    so_far_done e = stopped (Ok tt) (rw e at (f (length s.parts) (held_after [] (flatten s.parts)) s.holds))
-
-    pub so_far_failed : (failure : Failure) → r ≡ Err failure → (ending : Result Unit Failure) → IsErrAnd ending (λ e. e ≡ failure) → Ran ending before log'
-    so_far_failed failure e (Ok done) g = absurd g
-    so_far_failed failure e (Err other) g = rw g (stopped (Err failure) (rw e at (f (length s.parts) (held_after [] (flatten s.parts)) s.holds)))
+  pub so_far_stops : (log' : ℕ) (ending : Result Unit Failure) → ((reads : ℕ) (held : List ℕ) → Holds held line → Stops reads held ending log log') → Ran ending before log'
+  so_far_stops log' ending f =
+      let t = f (length s.parts) (held_after [] (flatten s.parts)) s.holds in
+      record {
+        log = log_of [] s.parts ++ t.tail;
+        is_run = record { parts = s.parts; of_parts = s.of_parts; tail = t.tail; whole = refl; ends = t.ends };
+        logged = logged_both before (log_of [] s.parts) t.tail s.logged t.logged;
+      }
 
   -- there were as many reads as can be counted
   pub so_far_last : reads ≡ 18446744073709551615 → Ran (Err TooManyReads) before log

@@ -1,5 +1,5 @@
 -- What a run of the program reads and writes, as a log of crates/streams. Assumes nothing: these are definitions.
-use Rattle.std.specs.Prelude.{ℕ, ◌<◌, ◌≡◌, length, Bool, true, false, Result, Ok, Err}
+use Rattle.std.specs.Prelude.{ℕ, ◌<◌, ◌≡◌, length, Result, Ok, Err}
 use Rattle.std.specs.declared.io.Error.{Error}
 use mathlib.Core.List.{List, [], ◌∷◌, ◌++◌, flatten}
 use Rattle.line.specs.Held.{held_after}
@@ -76,13 +76,6 @@ pub record Stops (reads : ℕ) (held : List ℕ) (ending : Result Unit Failure) 
   pub tail : List Entry
   pub ends : Ends reads held ending tail
   pub logged : Logged before after tail
-
--- One turn of the run: it goes on after a read (true), or ends. A turn does not know how many reads there were, so it promises this for every number of
--- them: it cannot give up
-abbrev pub Turned : (reads : ℕ) (held : List ℕ) → Result Bool Failure → (line : Line) (before after : ℕ) → Type 0
-Turned reads held (Ok true) line before after = TakesPart held line before after
-Turned reads held (Ok false) line before after = Stops reads held (Ok tt) before after
-Turned reads held (Err failure) line before after = Stops reads held (Err failure) before after
 
 -- the whole run
 pub record Ran (ending : Result Unit Failure) (before after : ℕ) : Type 0 where

@@ -2,7 +2,7 @@
 // its term; any other line is a term, answered by its number. The table is the source paper's.
 //
 // Answers are gathered, and written when the list may have no room for one more, and before each read. All reading and writing is by the crate
-// `streams`, with one log, which `main` makes: no other crate that this one stands on reads or writes (tests/one_log).
+// `streams`, by one handle with its log, which `main` makes: no other crate that this one stands on reads or writes (tests/one_log).
 #![tactic(auto)]
 
 ghost use Rattle.std.specs.Prelude.{List, ℕ, ◌<◌, ◌≤◌, length};
@@ -10,7 +10,7 @@ ghost use Rattle.line.specs.Feeding.{Holds};
 ghost use Rattle.line.specs.Held.{longest_line, Begins, part};
 ghost use Rattle.streams.specs.Parts.{Wrote};
 ghost use Rattle.treenum.specs.Treenum.{printed_for, PrintsLine};
-ghost use Rattle.treenum.specs.Run.{Feeds, Turned, Ran};
+ghost use Rattle.treenum.specs.Run.{Feeds, Ran};
 
 use line::{Fed, Line, Lists};
 use std::fmt::Display;
@@ -28,7 +28,7 @@ const ROWS: [u16; 42] = [
 
 const ACCEPTING: [u16; 2] = [2, 4];
 
-const NAMES: [u8; 4] = [b'a', b'\n', b'b', b'\n'];
+const NAMES: [u8; 4] = *b"a\nb\n";
 
 const PAPER: Lists<'static> = Lists {
     states: STATES,
@@ -37,8 +37,11 @@ const PAPER: Lists<'static> = Lists {
     names: &NAMES,
 };
 
+// What is to be printed is gathered here: room for 16,384 bytes, and for one answer more.
+type Out = [u8; 69633];
+
 // Why a run ends before all is answered: a read failed; a write failed; or there were more reads than can be counted.
-#[derive(Clone, Copy)]
+#[derive(Clone, Copy, Debug)]
 enum Failure {
     Read(io::Error),
     Write(io::Error),
@@ -56,8 +59,8 @@ impl Display for Failure {
 }
 
 // Feeds the bytes from a place on, to the end of the bytes or until the list may have no room for one answer more; puts what is to be printed.
-fn gather(line: &mut Line, bytes: &[u8], from: usize, out: &mut [u8]) -> Fed
-    requires from_in_bounds { (from < length bytes.now) × (longest_line ≤ length out.old) }
+fn gather(line: &mut Line, bytes: &[u8], from: usize, out: &mut Out) -> Fed
+    requires from_in_bounds { from < length bytes.now }
     ensures from_lt_next { (from < result.next) × (result.next ≤ length bytes.now) }
     ensures within { result.count ≤ length out.new }
     ensures by_index { (held : List ℕ) → Holds held line.old
@@ -67,8 +70,7 @@ fn gather(line: &mut Line, bytes: &[u8], from: usize, out: &mut [u8]) -> Fed
 }
 
 // Puts what is to be printed where the input ends.
-fn last_line(line: &Line, out: &mut [u8]) -> usize
-    requires longest_line_in_bounds { longest_line ≤ length out.old }
+fn last_line(line: &Line, out: &mut Out) -> usize
     ensures within { result ≤ length out.new }
     ensures begins { (held : List ℕ) → Holds held line.now → Begins out.new (printed_for held) result }
 {
@@ -76,70 +78,38 @@ fn last_line(line: &Line, out: &mut [u8]) -> usize
 }
 
 // Feeds the bytes of a read, and writes what is to be printed.
-fn feed_all(
-    line: &mut Line,
-    bytes: &[u8],
-    out: &mut [u8],
-    stdio: &mut Stdio,
-    log: &mut u64,
-) -> io::Result<()>
-    requires longest_line_in_bounds { longest_line ≤ length out.old }
+fn feed_all(line: &mut Line, bytes: &[u8], out: &mut Out, stdio: &mut Stdio) -> io::Result<()>
     ensures { (held : List ℕ) → Holds held line.old
-        → Feeds held bytes.now result line.new log.old log.new }
+        → Feeds held bytes.now result line.new stdio.old.log stdio.new.log }
 {
     let mut i = 0;
     while i < bytes.len() {
         let fed = gather(line, bytes, i, out);
-        streams::write_part(stdio, log, &out[..fed.count])?;
+        stdio.write_part(&out[..fed.count])?;
         i = fed.next;
     }
     Ok(())
 }
 
 // Writes what is to be printed where the input ends.
-fn finish(line: &Line, out: &mut [u8], stdio: &mut Stdio, log: &mut u64) -> io::Result<()>
-    requires longest_line_in_bounds { longest_line ≤ length out.old }
-    ensures { (held : List ℕ) → Holds held line.now → Wrote log.old log.new (printed_for held) result }
+fn finish(line: &Line, out: &mut Out, stdio: &mut Stdio) -> io::Result<()>
+    ensures { (held : List ℕ) → Holds held line.now → Wrote stdio.old.log stdio.new.log (printed_for held) result }
 {
     let n = last_line(line, out);
-    streams::write_part(stdio, log, &out[..n])
+    stdio.write_part(&out[..n])
 }
 
-// One read: its bytes are fed and what is to be printed is written. Gives whether there was a part: where there is none, the input has ended.
-fn take_turn(
-    line: &mut Line,
-    chunk: &mut [u8],
-    out: &mut [u8],
-    stdio: &mut Stdio,
-    log: &mut u64,
-) -> Result<bool, Failure>
-    requires chunk_nonzero { (0 < length chunk.old) × (longest_line ≤ length out.old) }
-    ensures { (reads : ℕ) (held : List ℕ) → Holds held line.old
-        → Turned reads held result line.new log.old log.new }
-{
-    match streams::read_part(stdio, log, chunk).map_err(Failure::Read)? {
-        Some(n) => {
-            feed_all(line, &chunk[..n], out, stdio, log).map_err(Failure::Write)?;
-            Ok(true)
-        }
-        None => {
-            finish(line, out, stdio, log).map_err(Failure::Write)?;
-            Ok(false)
-        }
-    }
-}
-
-// The whole run: reads the input to its end and writes what is to be printed for it, unless a read or a write fails.
-fn run(stdio: &mut Stdio, log: &mut u64) -> Result<(), Failure>
-    ensures { Ran result log.old log.new }
+// The whole run: reads the input to its end, and writes what is to be printed for each part of it before the next read, unless a read or a write fails.
+fn run(stdio: &mut Stdio) -> Result<(), Failure>
+    ensures { Ran result stdio.old.log stdio.new.log }
 {
     let mut chunk = [0u8; 16384];
-    // 16,384 bytes, and room for one answer more
-    let mut out = [0u8; 69633];
+    let mut out: Out = [0; 69633];
     let mut line = Line::new();
     for _ in 0..u64::MAX {
-        if !take_turn(&mut line, &mut chunk, &mut out, stdio, log)? {
-            return Ok(());
+        match stdio.read_part(&mut chunk).map_err(Failure::Read)? {
+            Some(n) => feed_all(&mut line, &chunk[..n], &mut out, stdio).map_err(Failure::Write)?,
+            None => return finish(&line, &mut out, stdio).map_err(Failure::Write),
         }
     }
     Err(Failure::TooManyReads)
@@ -147,11 +117,10 @@ fn run(stdio: &mut Stdio, log: &mut u64) -> Result<(), Failure>
 
 fn main(rt: HostRuntime) -> ExitCode {
     let mut stdio = Stdio::new(rt);
-    let mut log: u64 = 0;
-    match run(&mut stdio, &mut log) {
+    match run(&mut stdio) {
         Ok(()) => ExitCode::SUCCESS,
         Err(failure) => {
-            streams::say(&stdio, format_args!("treenum: {failure}"));
+            stdio.say(format_args!("treenum: {failure}"));
             ExitCode::FAILURE
         }
     }

@@ -1,15 +1,15 @@
-use Rattle.std.proofs.Common.{refl, rules}
+use Rattle.std.proofs.Common.{rules}
 use Rattle.treenum.proofs.Laws.{fills_first, fills_more, fills_broke, fills_last}
 use Rattle.treenum.proofs.feed_all.Goals as goal
 
 pub loop-i-init : goal.loop-i-init
-loop-i-init c = (fills_first _ _ _, refl)
+loop-i-init c = fills_first _ _ _
 
 pub returns-in_err-write_part : goal.returns-in_err-write_part
-returns-in_err-write_part c = fills_broke c.loop-i.invariant.0 _ _ _ _ _ c.gather-fed.ensures.from_lt_next.0 c.gather-fed.ensures.by_index c.in_err-write_part.field-0.0 c.in_err-write_part.ensures _ c.from_residual.ensures.0
+returns-in_err-write_part c = fills_broke c.loop-i.invariant _ _ _ _ _ c.gather-fed.ensures.from_lt_next.0 c.gather-fed.ensures.by_index c.in_err-write_part.field-0.0 c.in_err-write_part.ensures _ c.from_residual.ensures.0
 
 pub loop-i-preserved : goal.loop-i-preserved
-loop-i-preserved c = (fills_more c.loop-i.invariant.0 _ _ _ _ _ c.gather-fed.ensures.from_lt_next.0 c.gather-fed.ensures.by_index c.gather-fed.ensures.from_lt_next.1 c.in_ok-write_part.ensures, search rules)
+loop-i-preserved c = fills_more c.loop-i.invariant _ _ _ _ _ c.gather-fed.ensures.from_lt_next.0 c.gather-fed.ensures.by_index c.gather-fed.ensures.from_lt_next.1 c.in_ok-write_part.ensures
 
 pub returns : goal.returns
-returns c = fills_last c.loop-i.invariant.0 (search rules)
+returns c = fills_last c.loop-i.invariant (search rules)

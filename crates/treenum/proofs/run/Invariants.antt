@@ -1,8 +1,6 @@
-use mathlib.Core.Path.{◌≡◌}
-use lib.ListN.{length}
 use Rattle.treenum.proofs.Laws.{SoFar}
 use Rattle.treenum.proofs.run.Given as goal
 
 abbrev pub invariant-loop : goal.invariant-loop
 invariant-loop l =
-    SoFar l.initial.log l.line l.log l.counter × (length l.chunk ≡ 16384) × (length l.out ≡ 69633)
+    SoFar l.initial.stdio.log l.line l.stdio.log l.counter

@@ -1,19 +1,20 @@
-use native.Mathlib.Omega.{arith}
-use lib.Seq.{length-take-le}
-use mathlib.Core.Path.{sym}
-use Rattle.line.proofs.Outcomes.{read_fits_lem, number_shown, number_turned}
+use Rattle.std.proofs.Common.{◌≡◌, ◌∙◌, sym, Err, rules}
+use Rattle.line.specs.Lines.{decimal}
+use Rattle.line.proofs.Outcomes.{begins_as, read_fits_lem, number_shown, number_turned, result_shown, refusal_shown}
 use Rattle.line.proofs.Lists.answer_term.Goals as goal
 
-pub slice_bounds-answer_tree-end : goal.slice_bounds-answer_tree-end
-slice_bounds-answer_tree-end c =
-    omega (arith, (read_fits_lem c.read_term.ensures c.requires.tree_len _ c.in-Ok.is), c.read_term.auto.tree, c.requires.tree_len)
+pub returns-in_err-count : goal.returns-in_err-count
+returns-in_err-count c =
+    let e : c.from_residual.result ≡ Err c.in_err-count.field-0.0 = search rules in
+    rw e (number_turned c.read_term.ensures c.told-tree _ _ _ _ c.in_err-count.was)
 
-pub slice_bounds-answer_tree-end-in-Ok : goal.slice_bounds-answer_tree-end-in-Ok
-slice_bounds-answer_tree-end-in-Ok c =
-    sym (length-take-le _ _ (omega (arith, (read_fits_lem c.read_term.ensures c.requires.tree_len _ c.in-Ok.is), c.read_term.auto.tree, c.requires.tree_len)))
+pub shared_ref_as_front-number : goal.shared_ref_as_front-number
+shared_ref_as_front-number c = read_fits_lem c.read_term.ensures c.told-tree _ c.in_ok-count.was
 
-pub returns-in-Ok : goal.returns-in-Ok
-returns-in-Ok c = number_shown c.read_term.ensures c.requires.tree_len _ _ _ _ _ _ c.in-Ok.is c.answer_tree.ensures
+pub returns-in_err-number : goal.returns-in_err-number
+returns-in_err-number c =
+    let e : c.from_residual-in_err-number.result ≡ Err c.in_err-number.field-0.0 = search rules in
+    rw e (number_shown c.read_term.ensures c.told-tree _ _ _ _ c.in_ok-count.was ∙ refusal_shown c.number.ensures decimal _ c.in_err-number.was)
 
-pub returns-in-Err : goal.returns-in-Err
-returns-in-Err c = number_turned c.read_term.ensures c.requires.tree_len _ _ _ _ _ _ c.in-Err.is c.put_refusal.ensures
+pub returns : goal.returns
+returns c = begins_as (sym (number_shown c.read_term.ensures c.told-tree _ _ _ _ c.in_ok-count.was ∙ result_shown c.number.ensures decimal _ c.in_ok-number.was)) c.put_number.ensures
