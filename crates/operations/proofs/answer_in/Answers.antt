@@ -24,7 +24,7 @@ returns-in_err-checked g c =
 pub returns-in-Number : goal.returns-in-Number
 returns-in-Number g c =
     let e = c.new-numbering.ensures in
-    for_task c.in-Number.is (number_answers c.check_into.ensures _ _ _ _ c.in_ok-checked.was (prepares_so c.prepares.ensures c.in-Number.is refl) _ (rw (e.0, e.3, e.4, e.5) at c.number.ensures))
+    for_task c.in-Number.is (number_answers c.check_into.ensures _ _ _ _ c.in_ok-checked.was (prepares_so c.prepares.ensures c.in-Number.is refl) _ _ (rw (e.0, e.3, e.4, e.5) at c.number.ensures))
 
 pub returns-in-Write : goal.returns-in-Write
 returns-in-Write g c =
