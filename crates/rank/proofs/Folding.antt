@@ -107,8 +107,5 @@ module _ (cs sums xs vs : List ℕ) (k q : ℕ) where
   formed_is n h e = rw (ne_eqb (held cs q) 0 n, e)
 
   module _ (b : Formable cs sums xs vs k q) (n : held cs q ≡ 0 → ⊥) where
-    pub formable_folds : Foldable cs xs vs
-    formable_folds = let p = pos_of_ne-zero n in record { valued = b.valued p; small = omega (arith, b.small p) }
-
     pub formable_fits : (h : ℕ) → h ≡ horner (held cs) 0 xs vs → h + get_or sums k 0 < count_limit
     formable_fits h e = let p = pos_of_ne-zero n in omega (arith, b.small p, horner_less (valued_below (b.valued p)))

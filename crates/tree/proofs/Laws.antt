@@ -57,9 +57,6 @@ unfolding open_after
 open_next tree i l = rw (add-one i, take-suc tree i 0 l) (open_append 0 (take i tree) (get_or tree i 0 ∷ []))
 
 module _ {tree : List ℕ} {s : Reading} {i : ℕ} (r : Read tree s i) (l : i < length tree) where
-  pub reads_on : (s.depth ≤ s.place) × (s.place < 4096)
-  reads_on = (omega (arith, r.shallow, r.place_is), omega (arith, r.few, r.place_is))
-
   -- 13 holds of the entry just where it is refused
   ground_is : entry_ground tree i ≡ (if refusing s (get_or tree i 0) then 13 else 0)
   unfolding entry_ground

@@ -70,7 +70,7 @@ impl Reading {
 }
 
 // Whether the list is a tree of at most 4,096 entries, or refused by 12 or 13.
-#[tactic(auto, using(crate::proofs::Laws::begins, crate::proofs::Laws::too_long, crate::proofs::Laws::ended))]
+#[tactic(auto, using(crate::proofs::Laws::begins, crate::proofs::Laws::too_long, crate::proofs::Laws::ended, crate::proofs::Laws::went_on))]
 pub fn check_tree(tree: &[u16]) -> Result<(), Refusal>
     ensures { Decides tree.now result }
 {
