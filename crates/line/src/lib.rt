@@ -237,11 +237,11 @@ impl Lists<'_> {
         };
         let end = from + end;
         line.feed(&bytes[from..end]);
-        let count = self.answer(line, tree, out);
+        let n = self.answer(line, tree, out);
         line.clear();
         Fed {
             next: end + 1,
-            count,
+            count: n,
         }
     }
 
