@@ -5,7 +5,7 @@ ghost use Rattle.std.specs.Prelude.{◌≡◌, true, List, [], ◌∷◌, ◌++�
 ghost use Rattle.model.specs.Answers.{refused_by};
 ghost use Rattle.term.specs.Written.{Put};
 ghost use Rattle.line.specs.Lines.{decimal, printed, answer_number, answer_term, answer_to, output_for};
-ghost use Rattle.line.specs.Held.{no_end, with_digit, with_digits, longest_line, Holding, Begins, Answers, part};
+ghost use Rattle.line.specs.Held.{no_end, with_digit, with_digits, longest_line, Holding, Begins, Answers, Ends, part};
 
 use model::{Kind, Refusal};
 use term::put_bytes;
@@ -58,6 +58,13 @@ fn with_digits(mut number: Option<u64>, bytes: &[u8]) -> Option<u64>
         number = with_digit(number, *b);
     }
     number
+}
+
+// The place of the first byte that ends a line.
+fn line_end(bytes: &[u8]) -> Option<usize>
+    ensures { Ends bytes.now result }
+{
+    bytes.iter().position(|b| *b == b'\n')
 }
 
 impl Line {
@@ -221,21 +228,20 @@ impl Lists<'_> {
             → Prints self.now.states self.now.rows.now self.now.accepting.now self.now.names.now held
             (part bytes.now from result.next) line.new out.new result.count }
     {
-        for i in from..bytes.len() {
-            if bytes[i] == b'\n' {
-                line.feed(&bytes[from..i]);
-                let n = self.answer(line, tree, out);
-                line.clear();
-                return Fed {
-                    next: i + 1,
-                    count: n,
-                };
-            }
-        }
-        line.feed(&bytes[from..]);
+        let Some(end) = line_end(&bytes[from..]) else {
+            line.feed(&bytes[from..]);
+            return Fed {
+                next: bytes.len(),
+                count: 0,
+            };
+        };
+        let end = from + end;
+        line.feed(&bytes[from..end]);
+        let n = self.answer(line, tree, out);
+        line.clear();
         Fed {
-            next: bytes.len(),
-            count: 0,
+            next: end + 1,
+            count: n,
         }
     }
 
