@@ -149,12 +149,12 @@ fn limits(q: usize, mark: u64) -> Result<(), Refusal>
     Ok(())
 }
 
-// Refuses the first state that is beyond a limit.
-pub fn first_beyond(states: usize, marks: &[u64]) -> Result<(), Refusal>
+// Refuses the first state from `from` on that is beyond a limit.
+pub fn first_beyond(states: usize, marks: &[u64], from: usize) -> Result<(), Refusal>
     requires { states ≤ length marks.now }
-    ensures { BeyondFrom states marks.now 0 result }
+    ensures { BeyondFrom states marks.now from result }
 {
-    for q in 0..states {
+    for q in from..states {
         limits(q, marks[q])?;
     }
     Ok(())
@@ -255,7 +255,7 @@ pub fn settle(
     ensures { Settled prepare states by_target.now.rows.pool.now accepting.now by_target.now.rows.words.now counts.old
         counts.new sums.old sums.new result }
 {
-    if prepare || first_beyond(states, marks).is_err() {
+    if prepare || first_beyond(states, marks, 0).is_err() {
         settle_used(states, accepting, by_target, counts, marks, used, sums)?;
     }
     Ok(())

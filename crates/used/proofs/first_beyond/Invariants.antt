@@ -3,4 +3,4 @@ use Rattle.used.proofs.Beyond.{Looking}
 use Rattle.used.proofs.first_beyond.Given as goal
 
 abbrev pub invariant-loop-q : goal.invariant-loop-q
-invariant-loop-q l = Looking l.marks 0 l.q
+invariant-loop-q l = Looking l.marks l.from l.q
