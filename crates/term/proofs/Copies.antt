@@ -13,6 +13,13 @@ use Rattle.words.proofs.Reading.{Bytes}
 use Rattle.words.proofs.Placing.{placed_as, placed_join, word_byte}
 use Rattle.term.specs.Written.{Put, Copied}
 
+-- one byte more
+pub copied_one : (bytes : List ℕ) {old mid : List ℕ} {i : ℕ} → Copied i old mid 0 bytes → i < length mid → Copied (i + 1) old (set mid i (get_or bytes i 0)) 0 bytes
+copied_one bytes {old} {mid} {i} p h =
+    let z : i ≡ i + 0 = omega arith in
+    let front : 0 + i ≡ i = omega arith in
+    placed_join i 1 (omega arith) (omega arith) p (rw front (placed_one mid i (get_or bytes i 0) (λ k. get_or bytes (i + k) 0) h (ap (λ (k : ℕ). get_or bytes k 0) z)))
+
 -- a word of n bytes from place s on, which is not behind those that are copied
 pub copied_word : (bytes : List ℕ) {m : ℕ} {old mid new : List ℕ} (s n w : ℕ) → s ≤ m → m ≤ s + n → s + n ≤ length bytes → Bytes bytes
     → Copied m old mid 0 bytes → Word n s bytes w → WordPut n mid new s w → Copied (s + n) old new 0 bytes

@@ -246,6 +246,16 @@ fn text_length(lines: &NameLines, tree: &[u16]) -> usize
     sum
 }
 
+// Puts bytes one by one over as many others.
+fn put_few(to: &mut [u8], bytes: &[u8])
+    requires { length to.old ≡ length bytes.now }
+    ensures { to.new ≡ bytes.now }
+{
+    for (i, b) in bytes.iter().enumerate() {
+        to[i] = *b;
+    }
+}
+
 // Puts bytes over as many others, N at a time; the last N may overlap those before them.
 fn put_words<const N: usize>(to: &mut [u8], bytes: &[u8])
     requires n_value { (0 < N) × (N ≤ 8) }
@@ -272,7 +282,7 @@ pub fn put_bytes(text: &mut [u8], at: usize, bytes: &[u8]) -> usize
     } else if 4 <= bytes.len() {
         put_words::<4>(to, bytes);
     } else {
-        to.copy_from_slice(bytes);
+        put_few(to, bytes);
     }
     after
 }
