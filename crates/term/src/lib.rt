@@ -246,7 +246,8 @@ fn text_length(lines: &NameLines, tree: &[u16]) -> usize
     sum
 }
 
-// Puts bytes one by one over as many others.
+// Puts bytes one by one over as many others, fewer than four. (No copy_from_slice: their number is not known when this is compiled, so it would call
+// memmove, and the archive needs memset alone.)
 fn put_few(to: &mut [u8], bytes: &[u8])
     requires { length to.old ≡ length bytes.now }
     ensures { to.new ≡ bytes.now }
