@@ -5,12 +5,12 @@ use mathlib.Core.Bool.{Bool, true, false}
 use mathlib.Core.List.{List, ◌++◌}
 use native.Mathlib.Omega.{arith}
 use lib.Dec.{ltb}
-use lib.ListN.{length, get_or, take, drop, length-append, length-drop, get_or-append}
+use lib.ListN.{length, get_or, set, take, drop, length-append, length-drop, get_or-append}
 use lib.Seq.{length-take-le, get_or-take, get_or-drop, get_or-append-add, ext_get_or}
 use borrow.Author.Tests.{ltb-true, ltb-false}
 use Rattle.words.specs.Words.{Word, WordPut}
 use Rattle.words.proofs.Reading.{Bytes}
-use Rattle.words.proofs.Placing.{placed_as, placed_join, word_byte}
+use Rattle.words.proofs.Placing.{placed_one, placed_as, placed_join, word_byte}
 use Rattle.term.specs.Written.{Put, Copied}
 
 -- one byte more
