@@ -1,19 +1,19 @@
 -- The bytes of an entry, by what stands before it, and the bytes of the entries from a place on. Assumes nothing.
 use Rattle.std.specs.Prelude.{if◌then◌else◌}
 use Prim.Native.Nat.{ℕ, suc, ◌+◌, ◌-◌, ◌*◌, ◌<◌, ◌≤◌}
-use mathlib.Core.Path.{◌≡◌, refl, sym, ap, subst}
+use mathlib.Core.Path.{◌≡◌, refl, sym, ap, subst, ◌∙◌}
 use mathlib.Core.Bool.{Bool, true, false}
 use mathlib.Core.List.{List, [], ◌∷◌, ◌++◌}
 use native.Mathlib.Omega.{arith}
 use native.Mathlib.Nat.{pos_of_ne-zero}
 use lib.ListN.{length, get_or, drop, set, length-append, drop_of_length-le}
 use lib.Dec.{eqb}
-use borrow.Author.Tests.{eq-eqb, ne_eqb}
+use borrow.Author.Tests.{eq-eqb, ne_eqb, eqb-true, eqb-false}
 use Rattle.model.specs.Names.{name_of, line_at}
 use Rattle.model.proofs.Lists.{drop_next}
 use Rattle.names.specs.NamesIndex.{Lined}
 use Rattle.names.proofs.Lines as lines
-use Rattle.term.specs.Emit.{entry_text, entries_text, mark_after}
+use Rattle.term.specs.Emit.{entry_text, entries_text, closing, mark_after}
 use Rattle.term.specs.Written.{Put, Front, EntriesNamed}
 use Rattle.model.proofs.Writing.{Writing, writing_first, piece_fits, writing_last}
 use Rattle.term.proofs.Pieces.{piece_put, put_one, put_both}
@@ -55,6 +55,99 @@ name_line names e w h = rw h
 pub name_short : {names starts : List ℕ} {n : ℕ} → Lined names starts n → (e : ℕ) → (e ≡ 0 → ⊥) → e ≤ n → length (name_of names e) ≤ 24
 unfolding name_of
 name_short {names} {starts} {n} x e ne l = lines.name_short (line_at names (e - 1)).bytes (x.stands (e - 1) (omega (arith, pos_of_ne-zero ne))).named
+
+-- ---- the length by lines
+
+-- after a separator
+module _ (names : List ℕ) (mark e : ℕ) where
+  letter_close : e ≡ 0 → mark ≡ 44 → entry_text names mark e ≡ 41 ∷ []
+  unfolding entry_text
+  letter_close p q = rw (eq-eqb e 0 p, eq-eqb mark 44 q)
+
+  letter_bar : e ≡ 0 → (mark ≡ 44 → ⊥) → entry_text names mark e ≡ []
+  unfolding entry_text
+  letter_bar p q = rw (eq-eqb e 0 p, ne_eqb mark 44 q)
+
+  letter_mark : (e ≡ 0 → ⊥) → (mark ≡ 0 → ⊥) → entry_text names mark e ≡ mark ∷ name_of names e
+  unfolding entry_text
+  letter_mark p q = rw (ne_eqb e 0 p, ne_eqb mark 0 q)
+
+-- the separator after an entry, and that it is one
+mark_bar : (e : ℕ) → e ≡ 0 → mark_after e ≡ 44
+mark_bar e p = rw (eq-eqb e 0 p)
+
+mark_symbol : (e : ℕ) → (e ≡ 0 → ⊥) → mark_after e ≡ 40
+mark_symbol e p = rw (ne_eqb e 0 p)
+
+pub mark_some : (e : ℕ) → mark_after e ≡ 0 → ⊥
+mark_some e = go (eqb e 0)
+  where
+    go : (t : Bool) → ◌≡◌ {A = ℕ} (if t then 44 else 40) 0 → ⊥
+    go true h = omega arith
+    go false h = omega arith
+
+-- what is added for a bar after a bar
+module _ (mark e : ℕ) where
+  pub closing_one : e ≡ 0 → mark ≡ 44 → closing mark e ≡ 1
+  unfolding closing
+  closing_one p q = rw (eq-eqb e 0 p, eq-eqb mark 44 q)
+
+  pub closing_none : e ≡ 0 → (mark ≡ 44 → ⊥) → closing mark e ≡ 0
+  unfolding closing
+  closing_none p q = rw (eq-eqb e 0 p, ne_eqb mark 44 q)
+
+  pub closing_name : (e ≡ 0 → ⊥) → closing mark e ≡ 0
+  unfolding closing
+  closing_name p = rw (ne_eqb e 0 p)
+
+pub closing_after : (before e : ℕ) → e ≡ 0 → before ≡ 0 → closing (mark_after before) e ≡ 1
+closing_after before e p q = closing_one (mark_after before) e p (mark_bar before q)
+
+pub closing_leaf : (before e : ℕ) → e ≡ 0 → (before ≡ 0 → ⊥) → closing (mark_after before) e ≡ 0
+closing_leaf before e p q = closing_none (mark_after before) e p (λ h. let m = mark_symbol before q in omega arith)
+
+-- after a separator an entry gives as many bytes as its line has, from its start to the next, and a bar none, or one where it closes
+module _ {names starts : List ℕ} {n : ℕ} (x : Lined names starts n) (e : ℕ) (few : e ≤ n) {next from : ℕ}
+    (to : next ≡ get_or starts e 0) (begins : from ≡ get_or starts (e - 1) 0) where
+  line_bar : e ≡ 0 → next ≡ from
+  line_bar p = to ∙ ap (λ (k : ℕ). get_or starts k 0) (let z : e ≡ e - 1 = omega arith in z) ∙ sym begins
+
+  line_name : (e ≡ 0 → ⊥) → (next ≡ from + length (name_of names e) + 1) × (length (name_of names e) ≤ 24)
+  unfolding name_of
+  line_name p =
+      let l = pos_of_ne-zero p in
+      let s = x.stands (e - 1) (omega arith) in
+      let z = ap (λ (k : ℕ). get_or starts k 0) (let y : e ≡ e - 1 + 1 = omega arith in y) in
+      (omega (arith, to, begins, z, s.ends), lines.name_short (line_at names (e - 1)).bytes s.named)
+
+  pub line_from : from ≤ next
+  line_from = go (eqb e 0) (eqb-true e 0) (eqb-false e 0)
+    where
+      go : (t : Bool) → (t ≡ true → e ≡ 0) → (t ≡ false → e ≡ 0 → ⊥) → from ≤ next
+      go true u v = omega (arith, line_bar (u refl))
+      go false u v = omega (arith, (line_name (v refl)).0)
+
+  pub line_length : (mark : ℕ) → (mark ≡ 0 → ⊥) → {c : ℕ} → c ≡ closing mark e
+      → (next - from + c ≡ length (entry_text names mark e)) × (next - from + c ≤ 25)
+  line_length mark m {c} h = go (eqb e 0) (eqb mark 44) (eqb-true e 0) (eqb-false e 0) (eqb-true mark 44) (eqb-false mark 44)
+    where
+      go : (s t : Bool) → (s ≡ true → e ≡ 0) → (s ≡ false → e ≡ 0 → ⊥) → (t ≡ true → mark ≡ 44) → (t ≡ false → mark ≡ 44 → ⊥)
+          → (next - from + c ≡ length (entry_text names mark e)) × (next - from + c ≤ 25)
+      go true true a b p q =
+          let f = ap length (letter_close names mark e (a refl) (p refl)) in
+          let k = closing_one mark e (a refl) (p refl) in
+          (omega (arith, line_bar (a refl), f, h, k), omega (arith, line_bar (a refl), h, k))
+      go true false a b p q =
+          let f = ap length (letter_bar names mark e (a refl) (q refl)) in
+          let k = closing_none mark e (a refl) (q refl) in
+          (omega (arith, line_bar (a refl), f, h, k), omega (arith, line_bar (a refl), h, k))
+      go false t a b p q =
+          let f = ap length (letter_mark names mark e (b refl) m) in
+          let k = closing_name mark e (b refl) in
+          let l = line_name (b refl) in
+          (omega (arith, l.0, f, h, k), omega (arith, l.0, l.1, h, k))
+
+-- ---- the entries in turn
 
 -- the entries from i on
 pub letters_next : (names tree : List ℕ) (mark i : ℕ) → i < length tree

@@ -26,6 +26,10 @@ entry_text names mark e =
     if eqb e 0 then (if eqb mark 44 then 41 ∷ [] else []) else
     (if eqb mark 0 then [] else mark ∷ []) ++ name_of names e
 
+-- 1 for a bar after a bar: it gives `)`
+unfoldable pub closing : (mark e : ℕ) → ℕ
+closing mark e = if eqb e 0 then (if eqb mark 44 then 1 else 0) else 0
+
 -- the separator before a name that follows this entry
 abbrev pub mark_after : ℕ → ℕ
 mark_after e = if eqb e 0 then 44 else 40

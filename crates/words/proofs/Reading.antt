@@ -2,7 +2,8 @@
 use Prim.Native.Nat.{ℕ, zero, suc, ◌+◌, ◌-◌, ◌*◌, ◌%◌, ◌^◌, ◌<◌, ◌≤◌}
 use mathlib.Core.Path.{◌≡◌, refl, sym, ap, ◌∙◌}
 use mathlib.Core.List.{List, [], ◌∷◌, ◌++◌}
-use native.Mathlib.Nat.{pow-suc}
+use native.Mathlib.Nat.{pow-suc, one-le-pow, mul-le-mul_left}
+use native.Mathlib.Nat as nat
 use native.Mathlib.Omega.{arith}
 use lib.Arith.{digits_lt, digits_mod}
 use lib.Pow.{pow-add}
@@ -100,10 +101,13 @@ from_few few ys w p l d f =
     ∙ packed_append few (replicate m 0) ∙ rw (packed_zeros m) (omega arith)
 
 -- n bytes of a list
-pub few_word : (n at : ℕ) (xs : List ℕ) (w : ℕ) → Bytes xs → at + n ≤ length xs → w ≡ packed (take (at + n - at) (drop at xs)) → Word n at xs w
-few_word n at xs w p h d =
+pub few_word : (n at : ℕ) (xs ys : List ℕ) (w : ℕ) → Bytes xs → at + n ≤ length xs → n ≤ 8 → w ≡ from_le_bytes w64 (ys ++ drop n (replicate 8 0)) → ys ≡ take (at + n - at) (drop at xs) → Word n at xs w
+few_word n at xs ys w p h l d f =
     let z : at + n - at ≡ n = omega arith in
-    let e : w ≡ packed (take n (drop at xs)) = rw z at d in
+    let few : ys ≡ take n (drop at xs) = rw z at f in
+    let n_long : length (take n (drop at xs)) ≡ n = length-take-le n (drop at xs) (omega (arith, length-drop at xs)) in
+    let e : w ≡ packed (take n (drop at xs)) =
+    from_few (take n (drop at xs)) ys w (taken n (drop at xs) (dropped at xs p)) (omega arith) (rw n_long d) few in
     let long : length (take n (drop at xs)) ≡ n = length-take-le n (drop at xs) (omega (arith, length-drop at xs)) in
     record { is = e; below = rw e (rw long at (packed_below (take n (drop at xs)) (taken n (drop at xs) (dropped at xs p)))) }
 
@@ -114,3 +118,45 @@ packed_front n xs p l =
     let b : packed (take n xs) < 256 ^ n = rw e at (packed_below (take n xs) (taken n xs p)) in
     let f : packed xs ≡ packed (drop n xs) * 256 ^ n + packed (take n xs) = ap packed (sym (take-append-drop n xs)) ∙ w ∙ (let g = ap (λ (k : ℕ). packed (take n xs) + packed (drop n xs) * 256 ^ k) e in omega (arith, g)) in
     ap (λ (k : ℕ). k % 256 ^ n) f ∙ digits_mod (packed (drop n xs)) b
+
+-- ---- the end of the bytes
+
+pub few_below : (n : ℕ) (xs : List ℕ) → Bytes xs → length xs ≤ n → packed xs < 256 ^ n
+unfolding packed
+few_below zero [] p l = omega arith
+few_below zero (x ∷ xs) p l = absurd (omega arith)
+few_below (suc n) [] p l = rw (pow-suc 256 n) (omega (arith, few_below n [] p (omega arith)))
+few_below (suc n) (x ∷ xs) p l = rw (pow-suc 256 n) (omega (arith, p 0 (omega arith), few_below n xs (others x xs p) (omega arith)))
+
+-- the loop that packs them, from the last: `left` are still to come
+pub record Packs (left all : List ℕ) (w : ℕ) : Type 0 where
+  pub sum : packed left + w * 256 ^ length left ≡ packed all
+  pub few : packed all < 256 ^ 7
+
+pub packs_none : (at : ℕ) (xs left : List ℕ) → Bytes xs → length xs < at + 8 → left ≡ take (length xs - at) (drop at xs) → Packs left (drop at xs) 0
+packs_none at xs left p l e =
+    let all : left ≡ drop at xs = e ∙ take_all (length xs - at) (drop at xs) (omega (arith, length-drop at xs)) in
+    record { sum = rw all (omega (arith, nat.zero-mul (256 ^ length (drop at xs)))); few = few_below 7 (drop at xs) (dropped at xs p) (omega (arith, length-drop at xs)) }
+
+pub packs_small : {left all : List ℕ} {w : ℕ} → Packs left all w → w < 256 ^ 7
+packs_small {left} {all} {w} h = omega (arith, h.few, h.sum, mul-le-mul_left w (one-le-pow (length left) 256 (omega arith)))
+
+pub packs_more : {left all : List ℕ} {w : ℕ} (shorter : List ℕ) (x y : ℕ) → Packs left all w → left ≡ shorter ++ x ∷ [] → y ≡ x → Packs shorter all (w * 256 + y)
+unfolding packed
+packs_more {left} {all} {w} shorter x y h e f =
+    let n : ℕ = length shorter in
+    let l : length left ≡ suc n = omega (arith, ap length e, length-append shorter (x ∷ [])) in
+    let p : 256 ^ length left ≡ 256 ^ n * 256 = ap (λ (k : ℕ). 256 ^ k) l ∙ pow-suc 256 n in
+    let q : packed left ≡ packed shorter + x * 256 ^ n = ap packed e ∙ packed_append shorter (x ∷ []) ∙ omega arith in
+    record { sum = rw f (omega (arith, h.sum, rw p at h.sum, q)); few = h.few }
+
+pub packs_all : (left all : List ℕ) (w : ℕ) → Packs left all w → length left ≡ 0 → w ≡ packed all
+unfolding packed
+packs_all [] all w h e = omega (arith, h.sum)
+packs_all (x ∷ xs) all w h e = absurd (omega arith)
+
+pub rest_word : (xs : List ℕ) (i w : ℕ) → Bytes xs → length xs < i + 8 → w ≡ packed (drop i xs) → Word 8 i xs w
+rest_word xs i w p l e = record {
+  is = e ∙ ap packed (sym (take_all 8 (drop i xs) (omega (arith, length-drop i xs))));
+  below = rw e (few_below 8 (drop i xs) (dropped i xs p) (omega (arith, length-drop i xs)));
+}

@@ -3,7 +3,7 @@
 
 ghost use Rattle.std.specs.Prelude.{◌≡◌, ◌+◌, ◌<◌, ◌≤◌, length};
 ghost use Rattle.model.specs.Names.{lower};
-ghost use Rattle.words.specs.Words.{lanes, marked, words_alike, inner_ahead, foreign, packed, Word, WordPut};
+ghost use Rattle.words.specs.Words.{lanes, marked, words_alike, inner_ahead, foreign, Word, WordPut};
 
 // 1 in each of the eight bytes.
 const ONES: u64 = 0x0101_0101_0101_0101;
@@ -61,25 +61,28 @@ pub fn foreign_bytes(x: u64) -> u64
     !(letters | digits | hyphens | underscores | tens) & TOP_BITS
 }
 
-// At most eight bytes as one number, the first byte the lowest.
-#[tactic(auto, using(crate::proofs::Reading::from_few))]
-fn number_of(bytes: &[u8]) -> u64
-    requires { length bytes.now ≤ 8 }
-    ensures { result ≡ packed bytes.now }
-{
-    let mut word = [0u8; 8];
-    word[..bytes.len()].copy_from_slice(bytes);
-    u64::from_le_bytes(word)
-}
-
-// N bytes as one number: one load (bench/README.md says how that was seen).
-#[tactic(auto, using(crate::proofs::Reading::few_word))]
+// N bytes as one number, the first byte the lowest: one load (bench/README.md says how that was seen).
 pub fn word_at<const N: usize>(bytes: &[u8], at: usize) -> u64
     requires at_in_bounds { at + N ≤ length bytes.now }
     requires n_le_8 { N ≤ 8 }
     ensures { Word N at bytes.now result }
 {
-    number_of(&bytes[at..at + N])
+    let mut word = [0u8; 8];
+    word[..N].copy_from_slice(&bytes[at..at + N]);
+    u64::from_le_bytes(word)
+}
+
+// What is left of the bytes, fewer than eight, as one number. (Not as `word_at`: with a length that is not known when this is compiled,
+// copy_from_slice calls memcpy, and the archive needs memset alone.)
+fn rest_at(bytes: &[u8], at: usize) -> u64
+    requires { (at ≤ length bytes.now) × (length bytes.now < at + 8) }
+    ensures { Word 8 at bytes.now result }
+{
+    let mut w = 0;
+    for b in bytes[at..].iter().rev() {
+        w = w * 256 + u64::from(*b);
+    }
+    w
 }
 
 // Eight bytes as one number, or what is left of them.
@@ -90,7 +93,7 @@ pub fn word_or_rest(bytes: &[u8], at: usize) -> u64
     if 8 <= bytes.len() - at {
         word_at::<8>(bytes, at)
     } else {
-        number_of(&bytes[at..])
+        rest_at(bytes, at)
     }
 }
 
