@@ -55,6 +55,14 @@ same_split (suc m) (x ∷ xs) [] e = absurd (omega arith)
 same_split (suc m) (x ∷ xs) (y ∷ ys) e =
     ap (λ (t : Bool). alike x y && t) (same_split m xs ys (omega arith)) ∙ and_assoc (alike x y) (same_name (take m xs) (take m ys)) (same_name (drop m xs) (drop m ys))
 
+-- eight bytes of two names, as words: alike, or not
+pub compare_word : (a b : List ℕ) (i x y : ℕ) (t : Bool) → Bytes a → Bytes b → length a ≡ length b → i + 8 ≤ length a → Word 8 i a x → Word 8 i b y
+    → words_alike x y ≡ t → same_name (drop i a) (drop i b) ≡ t && same_name (drop (i + 8) a) (drop (i + 8) b)
+compare_word a b i x y t p q e l v w f =
+    same_split 8 (drop i a) (drop i b) (rw (length-drop i a, length-drop i b, e))
+    ∙ (λ j. (sym (words_list (take 8 (drop i a)) (take 8 (drop i b)) (taken 8 (drop i a) (dropped i a p)) (taken 8 (drop i b) (dropped i b q)) (eight_long i a l) (eight_long i b (omega arith)))
+    ∙ ap₂ words_alike (sym v.is) (sym w.is) ∙ f) j && same_name (drop-drop 8 i a j) (drop-drop 8 i b j))
+
 -- two chunks of eight bytes, as words
 abbrev pub alike_chunks : List ℕ × List ℕ → Bool
 alike_chunks p = words_alike (from_le_bytes w64 p.0) (from_le_bytes w64 p.1)
