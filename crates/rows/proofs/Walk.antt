@@ -1,14 +1,11 @@
 -- Laws of one row by the grounds 2 to 5. Assumes nothing.
-use Rattle.std.specs.Prelude.{Option, Some, None, MatchOption, Result, Ok, Err, if◌then◌else◌}
-use Rattle.std.specs.Option.{option_map}
-use Rattle.std.specs.List.{fold, reduce}
-use denote.Bor.{Bor}
+use Rattle.std.specs.Prelude.{Result, Ok, Err, if◌then◌else◌}
 use Prim.Native.Nat.{ℕ, zero, suc, ◌+◌, ◌-◌, ◌<◌, ◌≤◌, max}
-use mathlib.Core.Path.{◌≡◌, refl, sym, ap, ◌∙◌}
+use mathlib.Core.Path.{◌≡◌, refl, sym, ◌∙◌}
 use mathlib.Core.Bool.{Bool, true, false, ◌&&◌, not}
 use mathlib.Core.List.{List, [], ◌∷◌}
 use native.Mathlib.Omega.{arith}
-use lib.ListN.{length, get_or, take, drop}
+use lib.ListN.{length, get_or, take, drop, drop_of_length-le}
 use lib.Dec.{ltb}
 use borrow.Author.Tests.{ltb-true, ltb-false, lt-ltb, le-ltb}
 use Rattle.model.specs.declared.Kind.{Kind}
@@ -16,6 +13,7 @@ use Rattle.model.specs.declared.Kind.TheVariants.{CutRow, TooManyRowsOrArguments
 use Rattle.model.specs.Table.{Row, row_at, row_start, row_numbered, arg_count_at, args_at, Whole}
 use Rattle.model.specs.Check.{all_below, cut, too_many, out_of_range, not_below, repeated, row_ground}
 use Rattle.model.proofs.Choice.{and_true, and_both}
+use Rattle.model.proofs.Lists.{drop_next}
 use Rattle.model.proofs.Rows.{args_length}
 use Rattle.model.proofs.Checked.{not_cut, not_too_many, InRange, not_out_of_range}
 use Rattle.rows.specs.Words.{a_row}
@@ -29,21 +27,23 @@ part_is rows at a n e f =
 
 -- ---- the largest argument
 
-largest_fold : (m : ℕ) (xs : List ℕ) → fold max m xs ≡ largest m xs
+pub largest_step : (m : ℕ) (l : List ℕ) (i : ℕ) → i < length l → largest m (drop i l) ≡ largest (max m (get_or l i 0)) (drop (i + 1) l)
 unfolding largest
-largest_fold m [] = refl
-largest_fold m (x ∷ xs) = largest_fold (max m x) xs
+largest_step m l i lt = rw (drop_next l i lt)
 
--- 1 more than the largest, if there is one
-pub above_told : (l : List ℕ) (m : Option (Bor ℕ)) (n : ℕ) → option_map (λ x. x.now) m ≡ reduce max l → MatchOption m (n ≡ 0) (λ x. n ≡ x.now + 1) → n ≡ above l
-unfolding above largest
-above_told [] None n e h = h
-above_told [] (Some x) n e h = cc
-above_told (x ∷ xs) None n e h = cc
-above_told (x ∷ xs) (Some y) n e h =
-    let z : y.now ≡ fold max x xs = cc in
-    let o : max 0 x ≡ x = omega arith in
-    rw o (h ∙ ap (λ (k : ℕ). k + 1) (z ∙ largest_fold x xs))
+pub largest_end : (m : ℕ) (l : List ℕ) (i : ℕ) → length l ≤ i → largest m (drop i l) ≡ m
+unfolding largest
+largest_end m l i ge = rw (drop_of_length-le l {i = i} ge)
+
+pub above_none : (l : List ℕ) → length l ≡ 0 → 0 ≡ above l
+unfolding above
+above_none [] e = refl
+above_none (x ∷ xs) e = absurd (omega arith)
+
+pub above_some : (l : List ℕ) → (length l ≡ 0 → ⊥) → largest 0 l + 1 ≡ above l
+unfolding above
+above_some [] ne = absurd (ne refl)
+above_some (x ∷ xs) ne = refl
 
 max_below : (m x n : ℕ) → ltb (max m x) n ≡ ltb m n && ltb x n
 max_below m x n = go (ltb m n) refl (ltb x n) refl

@@ -84,7 +84,15 @@ pub fn args_in(pool: &[u16], w: u64) -> &[u16]
 fn above_all(args: &[u16]) -> u64
     ensures { result ≡ above args.now }
 {
-    args.iter().max().map_or(0, |top| u64::from(*top) + 1)
+    let mut top = 0;
+    for arg in args {
+        top = top.max(*arg);
+    }
+    if args.is_empty() {
+        0
+    } else {
+        u64::from(top) + 1
+    }
 }
 
 // Whether row i is beyond the 1,024th, or its n arguments are more than 16: 3.
