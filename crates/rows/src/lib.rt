@@ -81,6 +81,8 @@ pub fn args_in(pool: &[u16], w: u64) -> &[u16]
 }
 
 // One above the largest argument; 0 where there is none.
+// (A loop: tried as `iter().max()` and as a `fold`, and checking 1,024 rows of 16 arguments took 1.2 times the time before, where bench/README.md's bar
+// is 1.05.)
 fn above_all(args: &[u16]) -> u64
     ensures { result ≡ above args.now }
 {

@@ -1,13 +1,16 @@
-use Rattle.std.proofs.Common.{ℕ, rules, tests, ◌∙◌}
-use Rattle.std.proofs.lemmas.Iterator.{YieldsList-from_slice, YieldsList-from_zip}
-use Rattle.std.proofs.lemmas.Iterator.Search.{all_from_yields_List}
+use native.Mathlib.Omega.{arith}
+use borrow.Author.Tests.{eq-eqb, ne_eqb}
 use lib.Dec.{eqb}
-use Rattle.model.proofs.Lists.{same_each}
+use Rattle.model.proofs.Lists.{same_step, same_end}
 use Rattle.index.proofs.same.Goals as goal
 
+pub returns-then-a-i : goal.returns-then-a-i
+returns-then-a-i c =
+    rw (same_step eqb c.args.a.now c.args.b.now c.loop-i.i (omega arith) (omega arith), ne_eqb _ _ c.if-a-i.true) at c.loop-i.invariant
+
+pub loop-i-preserved : goal.loop-i-preserved
+loop-i-preserved c =
+    rw (same_step eqb c.args.a.now c.args.b.now c.loop-i.i (omega arith) (omega arith), eq-eqb _ _ c.if-a-i.false) at c.loop-i.invariant
+
 pub returns : goal.returns
-returns c =
-    let a = c.args.a.now in
-    let b = c.args.b.now in
-    all_from_yields_List (λ (p : ℕ × ℕ). eqb p.0 p.1) c.all.new.self c.all.new.f c.all.result c.all.ensures.ran (YieldsList-from_zip (YieldsList-from_slice a cc) (YieldsList-from_slice b cc)) (λ x r q k. search (rules, tests))
-    ∙ same_each eqb a b c.requires
+returns c = rw (same_end eqb c.args.a.now c.args.b.now c.loop-i.i (omega arith) (omega arith)) at c.loop-i.invariant
