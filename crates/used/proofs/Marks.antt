@@ -154,15 +154,7 @@ module _ (accepting cs : List ℕ) where
         → MarkedToo (picked accepting (some cs) (i + 1)) old (set used a true)
     listed_go e l z m = picks_go accepting (some cs) old used i a e m (lt-ltb 0 (get_or cs a 0) (pos_of_ne-zero z)) l
 
--- ---- a row: it counts more than 0, or nothing changes
-
-pub row_yes : (cs args : List ℕ) (old new : List Bool) (b : Bool) → b ≡ true → b ≡ ltb 0 (product (map (held cs) args)) → MarkedToo (λ q. is_among q args) old new → MarkedToo (row_names cs args) old new
-row_yes cs args old new b t e m =
-    record { long = m.long; each = λ q. m.each q ∙ ap (λ (x : Bool). is_set old q || x) (and_yes (is_among q args) ∙ ap (λ (x : Bool). is_among q args && x) (sym t ∙ e)) }
-  where
-    and_yes : (x : Bool) → x ≡ (x && true)
-    and_yes true = refl
-    and_yes false = refl
+-- ---- a row that counts 0 changes nothing
 
 pub row_no_lem : (cs args : List ℕ) (old : List Bool) (b : Bool) → b ≡ false → b ≡ ltb 0 (product (map (held cs) args)) → MarkedToo (row_names cs args) old old
 row_no_lem cs args old b t e =

@@ -8,7 +8,7 @@ use native.Mathlib.Nat.{mul-zero, zero-mul, eq-zero-or-pos, eq-or-lt_of_le}
 use native.Mathlib.Omega.{arith}
 use lib.ListN.{length, get_or}
 use lib.Dec.{eqb, ltb}
-use borrow.Author.Tests.{ltb-true, eqb-true, eq-eqb, ne_eqb}
+use borrow.Author.Tests.{ltb-true, lt-ltb, eqb-true, eq-eqb, ne_eqb}
 use Rattle.model.specs.Choice.{any_below}
 use Rattle.model.specs.Table.{Row}
 use Rattle.model.specs.Count.{product}
@@ -19,7 +19,7 @@ use Rattle.rows.specs.Words.{args_in, rows_in, row_no, afters}
 use Rattle.counts.specs.Chain.{target, leads, TargetLink, Chained, Comes}
 use Rattle.counts.specs.States.{held}
 use Rattle.counts.proofs.Chain.{leads_row, leads_end}
-use Rattle.used.specs.Marked.{is_set, Placed, RowPlaced, MarkedToo, row_names, named_row, named_for, AllMarked, PassedBy, TurnReady, Turned}
+use Rattle.used.specs.Marked.{is_set, Placed, RowPlaced, MarkedToo, row_names, listed_by, named_row, named_for, AllMarked, PassedBy, TurnReady, Turned}
 use Rattle.used.proofs.Marks.{same_test, or_none, or_assoc, marked_stays}
 use Rattle.used.proofs.Walk.{AtRow, at_link, leads_within, row_here, mine_here, args_here, link_next}
 
@@ -56,6 +56,20 @@ factor_some c (x ∷ xs) (suc k) l p = factor_some c xs k (omega arith) (go (eq-
     go : (product (map c xs) ≡ 0) ⊎ (0 < product (map c xs)) → 0 < product (map c xs)
     go (inl z) = absurd (omega (arith, ap (λ (n : ℕ). c x * n) z ∙ mul-zero (c x)))
     go (inr y) = y
+
+-- where a row counts more than 0 each of its arguments has trees
+pub row_marked : (cs args : List ℕ) {old new : List Bool} → ltb 0 (product (map (held cs) args)) ≡ true → MarkedToo (listed_by args cs) old new → MarkedToo (row_names cs args) old new
+row_marked cs args {old} t m = record { long = m.long; each = λ q. m.each q ∙ ap (λ (b : Bool). is_set old q || b) (same_test (listed_by args cs q) (row_names cs args q) (to q) (from q)) }
+  where
+    to : (q : ℕ) → listed_by args cs q ≡ true → row_names cs args q ≡ true
+    to q e = let x = and_true (ltb 0 (held cs q)) (is_among q args) e in rw (x.1, t) refl
+
+    from : (q : ℕ) → row_names cs args q ≡ true → listed_by args cs q ≡ true
+    from q e =
+        let x = and_true (is_among q args) (ltb 0 (product (map (held cs) args))) e in
+        let z = among_place q args x.0 in
+        let l : 0 < held cs q = rw (← z.2) (factor_some (held cs) args z.0 z.1 (ltb-true 0 (product (map (held cs) args)) x.1)) in
+        rw (lt-ltb 0 (held cs q) l, x.0) refl
 
 -- ---- the rows before the one that the link leads to are taken, and the states below n that have trees are marked
 

@@ -32,24 +32,13 @@ fn none_empty(counts: &[u64]) -> bool
     counts.iter().all(|c| *c != 0)
 }
 
-// Marks the states of a list.
-// (Beside mark_listed: one function for both would take the test as a closure, longer than the loop that it saves.)
-fn mark_args(args: &[u16], used: &mut [bool])
-    requires { Placed (length used.old) args.now }
-    ensures { MarkedToo (λ q. is_among q args.now) used.old used.new }
-{
-    for a in args {
-        used[usize::from(*a)] = true;
-    }
-}
-
-// Marks the listed states that have trees.
+// Marks the states of a list that have trees.
 #[tactic(auto, using(crate::proofs::Marks::listed_skip, crate::proofs::Marks::listed_go))]
-fn mark_listed(accepting: &[u16], counts: &[u64], used: &mut [bool])
-    requires { RowPlaced accepting.now counts.now used.old }
-    ensures { MarkedToo (listed_by accepting.now counts.now) used.old used.new }
+fn mark_listed(list: &[u16], counts: &[u64], used: &mut [bool])
+    requires { RowPlaced list.now counts.now used.old }
+    ensures { MarkedToo (listed_by list.now counts.now) used.old used.new }
 {
-    for a in accepting {
+    for a in list {
         let q = usize::from(*a);
         if counts[q] != 0 {
             used[q] = true;
@@ -74,13 +63,13 @@ impl Counts<'_> {
         self.full || args.iter().all(|a| self.counts[usize::from(*a)] != 0)
     }
 
-    // Marks the arguments of a row, if it counts more than 0.
+    // Marks the arguments of a row, if it counts more than 0: then each of them has trees.
     fn mark_row(&self, args: &[u16], used: &mut [bool])
         requires { RowPlaced args.now self.now.counts.now used.old }
         ensures { MarkedToo (row_names self.now.counts.now args.now) used.old used.new }
     {
         if self.row_counts(args) {
-            mark_args(args, used);
+            mark_listed(args, self.counts, used);
         }
     }
 
