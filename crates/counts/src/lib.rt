@@ -29,15 +29,17 @@ const EMPTY: u64 = 1099511627776;
 const LENGTH_CEILING: u64 = 4097;
 
 // Rows chained by their targets: the first row of each state's chain, the links standing in the words.
-#[derive(Clone, Copy)]
+// (A link is 1 more than a row's number, or 0 for none: an `Option<u16>` takes 4 bytes, and has no place in the 12 bits of a word that a link has, nor in
+// the fixed 2 bytes for each state here.)
+#[derive(Clone, Copy, Debug)]
 pub struct ByTarget<'a> {
     pub rows: Rows<'a>,
     pub first: &'a [u16],
     ghost chained: { Chained (all_rows rows) first.now (afters rows.words.now) } by { Prim.hlevel props },
 }
 
-// The rows along a chain of links: their numbers and their words. The link is 1 more than the number of the row that comes next, or 0.
-#[derive(Clone, Copy)]
+// The rows along a chain of links: their numbers and their words. The link is as it stands in the word of the row before.
+#[derive(Clone, Copy, Debug)]
 pub struct RowsOfState<'a> {
     pub words: &'a [u64],
     pub next: usize,
@@ -62,7 +64,7 @@ impl Iterator for RowsOfState<'_> {
 }
 
 // What a state counts, or nothing if that is beyond 64 bits, and how many entries its longest tree has, kept to 4,097.
-#[derive(Clone, Copy, Debug)]
+#[derive(Clone, Copy, Debug, PartialEq, Eq)]
 struct Counted {
     count: Option<u64>,
     longest: u64,

@@ -15,6 +15,8 @@ use model::{Kind, Refusal};
 use rows::Rows;
 
 // As the most rows of a chain: any number, since there are at most 1,024 rows.
+// (A number, and no Option for "no limit": the walk along a chain compares its steps with it at each row, where an Option would be taken apart first, and
+// `find` would unwrap the answer as it does now.)
 pub const ANY_LENGTH: usize = 2048;
 
 // A chain of the index is longer than allowed.
@@ -164,6 +166,8 @@ fn seek(
 }
 
 // Rows and their index: the first row of each bucket's chain, and the multiplier of the hash.
+// (A first row is 1 more than a row's number, or 0 for none: an `Option<u16>` takes 4 bytes, and the arrays of buckets, fixed on the stack, have 2 for
+// each.)
 #[derive(Clone, Copy, Debug)]
 pub struct RowIndex<'a> {
     pub rows: Rows<'a>,

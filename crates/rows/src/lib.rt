@@ -14,7 +14,7 @@ use model::Kind;
 // (A word is a bare `u64`, read by the functions below, and no `struct Word(u64)` with methods: what is said of words, here and in each crate above, is said
 // of lists of numbers, and of lists of structs each `get_or words r 0` would want a word in place of the 0, and each part in `Inside` and `nexts` a field.)
 // (The links of the index and of the targets are parts of the words, and not lists beside them: memory is fixed, arrays on the stack, and two lists of
-// links would be two more arrays of a place for each row.)
+// links would be two more arrays of a place for each row. A link is 1 more than a row's number, or 0 for none: an Option has no place in its 12 bits.)
 #[derive(Clone, Copy, Debug)]
 pub struct Rows<'a> {
     pub pool: &'a [u16],

@@ -136,7 +136,8 @@ fn check_states(
 
 // The check of a table, which leaves in the lent arrays what writing needs of one that passes, and what numbering needs if it is to prepare for that.
 // (They stay apart, and no struct of `&mut`s: each step fills some of them and reads others, and its contract says of each what it then holds. `prepare`
-// is a bool: `used::settle` and the clauses take it as one side of `prepare || from < states`, and an enum of two cases would be turned into it there.)
+// is a bool, here and in `used::settle`, where it is one side of `prepare || first_beyond(..).is_err()`: an enum of two cases would be matched there to
+// one.)
 pub fn check_into(
     prepare: bool,
     states: u64,

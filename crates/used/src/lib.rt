@@ -17,8 +17,8 @@ use model::{Kind, Refusal};
 // The most entries that a state's longest tree may have.
 const LENGTH_LIMIT: u64 = 4096;
 
-// The counts of the states, and whether every state has trees.
-#[derive(Clone, Copy)]
+// The counts of the states, and whether every state has trees, which is asked for each row.
+#[derive(Clone, Copy, Debug)]
 struct Counts<'a> {
     counts: &'a [u64],
     full: bool,
@@ -46,7 +46,8 @@ fn mark_listed(list: &[u16], counts: &[u64], used: &mut [bool])
     }
 }
 
-// The first state from `low` on, and below m, that has trees and no mark; or m.
+// The place up to which, and at most up to m, every state that has trees is marked; the states below `low` are known to be so.
+// (A place, and no Option of the first state without a mark: where all below m are marked, what both callers compare with is m.)
 fn pass_marked(counts: &[u64], used: &[bool], low: usize, m: usize) -> usize
     requires { PassedBy counts.now used.now low m }
     ensures { AllMarked counts.now used.now result × (result ≤ m) }
@@ -150,6 +151,8 @@ pub fn first_beyond(states: usize, marks: &[u64], from: usize) -> Result<(), Ref
 }
 
 // Refuses the first used state that is beyond a limit.
+// (Beside first_beyond: one function for both would take the states as an iterator, here a `filter` with a closure, and its contract would say of an
+// iterator of any kind which states it gives, for a loop of one line.)
 pub fn first_fault(states: usize, marks: &[u64], used: &[bool]) -> Result<(), Refusal>
     requires { FaultReady states marks.now used.now }
     ensures { FirstUsed states marks.now used.now result }
@@ -163,7 +166,8 @@ pub fn first_fault(states: usize, marks: &[u64], used: &[bool]) -> Result<(), Re
 }
 
 // Sets the sums of the rows of state q to 0.
-// (Words and first links, and no ByTarget: the arguments of the rows are not asked for, nor a pool.)
+// (Words and first links, and no ByTarget: clear_unused is public and takes the two lists, and a ByTarget would ask of its callers a pool too, in which
+// each row's arguments stand.)
 fn clear_rows(words: &[u64], first: &[u16], sums: &mut [u64], q: usize)
     requires { RowsChained words.now first.now sums.old q }
     ensures { RowsCleared words.now q sums.old sums.new }
@@ -228,7 +232,6 @@ fn settle_used(
 
 // Holds the used states to the limits. Where none is beyond them the counts of unused states, and the sums of their rows, become 0; this
 // is left out where nothing is prepared and no state at all is beyond a limit.
-// (`prepare` is a bool: it is handed on as it is from the operation, and an enum would call its two values by the same two words.)
 pub fn settle(
     prepare: bool,
     states: usize,
