@@ -49,7 +49,7 @@ fn fold(states: &[u16], values: &[u64], counts: &[u64]) -> u64
 
 // A table that passes, as its check leaves it for numbering: its rows and their index, its accepting list, what each used state counts, and for each
 // row what the rows before it with its target count. (The fact is truncated: `RankReady` names what all states count, used or not.)
-#[derive(Clone, Copy)]
+#[derive(Clone, Copy, Debug)]
 pub struct Numbering<'a> {
     pub index: RowIndex<'a>,
     pub accepting: &'a [u16],
@@ -181,7 +181,7 @@ impl<'a> Numbering<'a> {
             waits: 0,
         };
         for (i, e) in tree.iter().enumerate() {
-            match Step::of(*e) {
+            match Step::from(*e) {
                 Step::Opens => stack.open(*e),
                 Step::Closes => {
                     let (symbol, states, values) = stack.top();
