@@ -35,21 +35,31 @@ struct Stack<'a> {
     waits: usize,
 }
 
-// The children's values as one: for each child from the first, multiply by the count of its state and add its value.
-fn fold(states: &[u16], values: &[u64], counts: &[u64]) -> u64
-    requires { Foldable counts.now states.now values.now }
-    ensures { result ≡ horner (held counts.now) 0 states.now values.now }
-{
-    let mut h: u64 = 0;
-    for (q, v) in states.iter().zip(values) {
-        h = h * counts[usize::from(*q)] + *v;
+// A node whose bar is read: its symbol, and the states and the values of its children.
+#[derive(Clone, Copy, PartialEq, Eq, Debug)]
+struct Closing<'a> {
+    symbol: u16,
+    states: &'a [u16],
+    values: &'a [u64],
+}
+
+impl Closing<'_> {
+    // The children's values as one: for each child from the first, multiply by the count of its state and add its value.
+    fn fold(self, counts: &[u64]) -> u64
+        requires { Foldable counts.now self.states.now self.values.now }
+        ensures { result ≡ horner (held counts.now) 0 self.entry.states.now self.entry.values.now }
+    {
+        let mut h: u64 = 0;
+        for (q, v) in self.states.iter().zip(self.values) {
+            h = h * counts[usize::from(*q)] + *v;
+        }
+        h
     }
-    h
 }
 
 // A table that passes, as its check leaves it for numbering: its rows and their index, its accepting list, what each used state counts, and for each
 // row what the rows before it with its target count. (The fact is truncated: `RankReady` names what all states count, used or not.)
-#[derive(Clone, Copy)]
+#[derive(Clone, Copy, Debug)]
 pub struct Numbering<'a> {
     pub index: RowIndex<'a>,
     pub accepting: &'a [u16],
@@ -71,19 +81,19 @@ impl<'a> Stack<'a> {
         self.depth += 1;
     }
 
-    // The symbol of the node opened last, and the states and the values of its children.
-    fn top(&self) -> (u16, &[u16], &[u64])
+    // The node opened last, as its bar is read.
+    fn top(&self) -> Closing<'_>
         requires { (0 < self.now.depth) × (self.now.depth ≤ length self.now.opens.now) × ((top self.now).begin ≤ self.now.waits)
             × (self.now.waits ≤ length self.now.waiting.now) × (self.now.waits ≤ length self.now.values.now) }
-        ensures { (result.0 ≡ (top self.now).symbol) × (result.1.now ≡ top_states self.now) × (result.2.now ≡ top_values self.now) }
+        ensures { (result.symbol ≡ (top self.now).symbol) × (result.states.now ≡ top_states self.now) × (result.values.now ≡ top_values self.now) }
     {
         let OpenNode { symbol, begin } = self.opens[self.depth - 1];
         let b = usize::from(begin);
-        (
+        Closing {
             symbol,
-            &self.waiting[b..self.waits],
-            &self.values[b..self.waits],
-        )
+            states: &self.waiting[b..self.waits],
+            values: &self.values[b..self.waits],
+        }
     }
 
     // Closes the node opened last: its state and its value take the place of its children's.
@@ -124,26 +134,26 @@ impl<'a> Numbering<'a> {
         }
     }
 
-    // The value of a tree in its state q, by its row k. An unused state counts 0, and no value is formed in it: 0 stands there, which nothing reads as one.
+    // The value of a closed node's tree in its state q, by its row k. An unused state counts 0, and no value is formed in it: 0 stands there, which nothing reads as one.
     // (No `Option`: the stack's 2,048 values would take twice their 16 KB of fixed memory.)
-    fn value_in(&self, states: &[u16], values: &[u64], k: usize, q: u16) -> u64
-        requires { Formable self.now.counts.now self.now.sums.now states.now values.now k q }
-        ensures { result ≡ formed self.now.counts.now self.now.sums.now states.now values.now k q }
+    fn value_in(&self, node: Closing<'_>, k: usize, q: u16) -> u64
+        requires { Formable self.now.counts.now self.now.sums.now node.states.now node.values.now k q }
+        ensures { result ≡ formed self.now.counts.now self.now.sums.now node.entry.states.now node.entry.values.now k q }
     {
         if self.counts[usize::from(q)] == 0 {
             return 0;
         }
-        fold(states, values, self.counts) + self.sums[k]
+        node.fold(self.counts) + self.sums[k]
     }
 
-    // The state that a tree with this symbol reaches, whose children have these states and values, and its value there; or nothing if it reaches none.
-    fn close(&self, symbol: u16, states: &[u16], values: &[u64]) -> Option<(u16, u64)>
-        requires { ClosableIn self.now symbol states.now values.now }
-        ensures { result ≡ node_in self.now symbol states.now values.now }
+    // The state that a closed node's tree reaches, and its value there; or nothing if it reaches none.
+    fn close(&self, node: Closing<'_>) -> Option<(u16, u64)>
+        requires { ClosableIn self.now node.symbol node.states.now node.values.now }
+        ensures { result ≡ node_in self.now node.entry.symbol node.entry.states.now node.entry.values.now }
     {
-        let k = self.index.find(symbol, states)?;
+        let k = self.index.find(node.symbol, node.states)?;
         let q = rows::target_in(self.index.rows.words[k]);
-        Some((q, self.value_in(states, values, k, q)))
+        Some((q, self.value_in(node, k, q)))
     }
 
     // The number of a tree with this state and value; 14 at the given place if the state is not listed. The value is added last, so that no sum
@@ -181,11 +191,10 @@ impl<'a> Numbering<'a> {
             waits: 0,
         };
         for (i, e) in tree.iter().enumerate() {
-            match Step::of(*e) {
+            match Step::from(*e) {
                 Step::Opens => stack.open(*e),
                 Step::Closes => {
-                    let (symbol, states, values) = stack.top();
-                    let Some((q, v)) = self.close(symbol, states, values) else {
+                    let Some((q, v)) = self.close(stack.top()) else {
                         return Err(Refusal::new(Kind::NotAccepted, i));
                     };
                     stack.close(q, v);

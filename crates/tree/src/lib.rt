@@ -20,10 +20,10 @@ pub enum Step {
     Closes,
 }
 
-impl Step {
-    pub fn of(e: u16) -> Self
-        ensures { result ≡ step e }
-    {
+impl From<u16> for Step {
+    ghost from_gives = { λ e s. s ≡ step e };
+
+    fn from(e: u16) -> Step {
         if e == 0 { Step::Closes } else { Step::Opens }
     }
 }
@@ -46,7 +46,7 @@ impl Reading {
             return Err(Refusal::new(Kind::NotATree, self.place));
         }
         // one value in either case, and no branch that goes on: which entries are bars cannot be foreseen
-        let depth = match Step::of(e) {
+        let depth = match Step::from(e) {
             Step::Opens => self.depth + 1,
             Step::Closes => self.depth - 1,
         };

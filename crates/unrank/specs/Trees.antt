@@ -7,6 +7,7 @@ use Rattle.model.specs.Count.{sum, product, weight}
 use Rattle.model.specs.Value.{find_by, tree_in}
 use Rattle.counts.specs.Chain.{target}
 use Rattle.counts.specs.States.{held}
+use Rattle.rows.specs.declared.Rows.{Rows}
 use Rattle.unrank.specs.declared.Entered.{Entered}
 use Rattle.unrank.specs.declared.Spot.{Spot}
 
@@ -19,6 +20,9 @@ pub record Enters (pool words counts : List ℕ) (q value : ℕ) (e : Entered) :
   pub is : e.word ≡ get_or words row 0
   pub weighs : e.weight ≡ product (map (held counts) (row_no (rows_in pool words) row).args)
   pub falls : e.rest < e.weight
+
+abbrev pub EntersBy : Rows → (counts : List ℕ) → Spot → Entered → Type 0
+EntersBy rows counts s = Enters rows.pool.now rows.words.now counts s.state s.value
 
 -- the children that are left have states with places, whose counts have the product w, and h is below it
 pub record Shared (counts states : List ℕ) (w h : ℕ) : Type 0 where
@@ -41,6 +45,12 @@ value_entries rows counts q value = serial (tree_in rows (held counts) (suc q) q
 pub record Wrote (rows : List Row) (counts : List ℕ) (q value : ℕ) (old new : List ℕ) (n : ℕ) : Type 0 where
   pub many : n ≡ length (value_entries rows counts q value)
   pub holds : new ≡ value_entries rows counts q value ++ drop n old
+
+abbrev pub spot_entries : (rows : List Row) (counts : List ℕ) → Spot → List ℕ
+spot_entries rows counts s = value_entries rows counts s.state s.value
+
+abbrev pub WroteSpot : (rows : List Row) (counts : List ℕ) → Spot → (old new : List ℕ) (n : ℕ) → Type 0
+WroteSpot rows counts s = Wrote rows counts s.state s.value
 
 -- the entries of the list are states that have a place, and the number is below what they count together
 pub record ListReady (accepting counts : List ℕ) (number : ℕ) : Type 0 where

@@ -7,7 +7,7 @@ ghost use Rattle.rows.specs.Words.{Inside, args_in};
 ghost use Rattle.rows.specs.Listed.{all_rows};
 ghost use Rattle.counts.specs.States.{held};
 ghost use Rattle.unrank.specs.UnrankReady.{WriteReady};
-ghost use Rattle.unrank.specs.Trees.{Enters, Shared, value_entries, Wrote, spot_of};
+ghost use Rattle.unrank.specs.Trees.{EntersBy, Shared, spot_entries, WroteSpot, spot_of};
 ghost use Rattle.unrank.specs.Written.{WroteNumber, WroteBelow};
 
 use counts::ByTarget;
@@ -15,7 +15,7 @@ use model::{Answer, Kind, Refusal};
 use rows::Rows;
 
 // The row in which a value falls: its word, what it counts, and the value less what the state's earlier rows count.
-#[derive(Clone, Copy)]
+#[derive(Clone, Copy, PartialEq, Eq, Debug)]
 struct Entered {
     word: u64,
     weight: u64,
@@ -23,14 +23,14 @@ struct Entered {
 }
 
 // A state and a value in it.
-#[derive(Clone, Copy)]
+#[derive(Clone, Copy, PartialEq, Eq, Debug)]
 struct Spot {
     state: usize,
     value: u64,
 }
 
 // The children of a row: what each state counts; the children's states, the product of what these count, and what is left of the value for them.
-#[derive(Clone, Copy)]
+#[derive(Clone, Copy, Debug)]
 struct ChildrenOfRow<'a> {
     counts: &'a [u64],
     states: &'a [u16],
@@ -98,12 +98,13 @@ impl<'a> TreeWriter<'a> {
         }
     }
 
-    // The row of state q in which the value falls, by the sums along the chain of the state's rows.
-    fn find_row(&self, q: usize, value: u64) -> Entered
-        requires { value < held self.now.counts.now q }
-        ensures { Enters self.now.by_target.rows.pool.now self.now.by_target.rows.words.now self.now.counts.now q value result }
+    // The row of the state in which the value falls, by the sums along the chain of the state's rows.
+    fn find_row(&self, spot: Spot) -> Entered
+        requires { spot.value < held self.now.counts.now spot.state }
+        ensures { EntersBy self.now.by_target.rows self.now.counts.now spot result }
     {
-        let mut rows = self.by_target.rows_of(q);
+        let Spot { state, value } = spot;
+        let mut rows = self.by_target.rows_of(state);
         let Some((_, mut word)) = rows.next() else {
             // a state that has a value has a row
             unreachable!()
@@ -123,7 +124,7 @@ impl<'a> TreeWriter<'a> {
         }
         Entered {
             word,
-            weight: self.counts[q] - begin,
+            weight: self.counts[state] - begin,
             rest: value - begin,
         }
     }
@@ -144,30 +145,30 @@ impl<'a> TreeWriter<'a> {
         }
     }
 
-    // How many entries the tree of a value in state q has.
-    fn tree_length(&self, q: usize, value: u64) -> usize
-        requires { value < held self.now.counts.now q }
-        ensures { result ≡ length (value_entries (all_rows self.now.by_target.rows) self.now.counts.now q value) }
+    // How many entries the tree of a value in its state has.
+    fn tree_length(&self, spot: Spot) -> usize
+        requires { spot.value < held self.now.counts.now spot.state }
+        ensures { result ≡ length (spot_entries (all_rows self.now.by_target.rows) self.now.counts.now spot) }
     {
-        let row = self.find_row(q, value);
+        let row = self.find_row(spot);
         let mut n: usize = 2;
         for child in self.children_of(row) {
-            n += self.tree_length(child.state, child.value);
+            n += self.tree_length(child);
         }
         n
     }
 
-    // Writes the tree of a value in state q at the front of `out`, and gives how many entries it has.
-    fn write_tree(&self, q: usize, value: u64, out: &mut [u16]) -> usize
-        requires value_below { value < held self.now.counts.now q }
-        requires value_in_bounds { length (value_entries (all_rows self.now.by_target.rows) self.now.counts.now q value) ≤ length out.old }
-        ensures { Wrote (all_rows self.now.by_target.rows) self.now.counts.now q value out.old out.new result }
+    // Writes the tree of a value in its state at the front of `out`, and gives how many entries it has.
+    fn write_tree(&self, spot: Spot, out: &mut [u16]) -> usize
+        requires value_below { spot.value < held self.now.counts.now spot.state }
+        requires value_in_bounds { length (spot_entries (all_rows self.now.by_target.rows) self.now.counts.now spot) ≤ length out.old }
+        ensures { WroteSpot (all_rows self.now.by_target.rows) self.now.counts.now spot out.old out.new result }
     {
-        let row = self.find_row(q, value);
+        let row = self.find_row(spot);
         out[0] = rows::symbol_in(row.word);
         let mut at: usize = 1;
         for child in self.children_of(row) {
-            at += self.write_tree(child.state, child.value, &mut out[at..]);
+            at += self.write_tree(child, &mut out[at..]);
         }
         out[at] = 0;
         at + 1
@@ -196,12 +197,12 @@ impl<'a> TreeWriter<'a> {
         ensures { WroteNumber (all_rows self.now.by_target.rows) self.now.accepting.now self.now.counts.now number
             tree.old tree.new result }
     {
-        let Spot { state, value } = self.find_state(number);
-        let needed = self.tree_length(state, value);
+        let spot = self.find_state(number);
+        let needed = self.tree_length(spot);
         if tree.len() < needed {
             return Err(Refusal::new(Kind::ShortTreeList, needed));
         }
-        self.write_tree(state, value, tree);
+        self.write_tree(spot, tree);
         Ok(needed as u64)
     }
 

@@ -9,30 +9,30 @@ pub loop-i-init : goal.loop-i-init
 loop-i-init c = running_begins _ _ _ c.requires.0 c.requires.1 (refl, refl) (search rules)
 
 pub open-requires : goal.open-requires
-open-requires c = open_room c.loop-i.invariant c.loop-i-test.true c.of.ensures c.in-Opens.is
+open-requires c = open_room c.loop-i.invariant c.loop-i-test.true c.from.ensures c.in-Opens.is
 
-pub top-symbol-requires : goal.top-symbol-requires
-top-symbol-requires c = top_room c.loop-i.invariant c.loop-i-test.true c.of.ensures c.in-Closes.is
+pub top-requires : goal.top-requires
+top-requires c = top_room c.loop-i.invariant c.loop-i-test.true c.from.ensures c.in-Closes.is
 
 pub close-requires : goal.close-requires
-close-requires c = let top = c.top-symbol.ensures in rw (top.0, top.1, top.2) (close_fits c.loop-i.invariant c.loop-i-test.true c.of.ensures c.in-Closes.is)
+close-requires c = let top = c.top.ensures in rw (top.0, top.1, top.2) (close_fits c.loop-i.invariant c.loop-i-test.true c.from.ensures c.in-Closes.is)
 
 pub returns-in_default : goal.returns-in_default
 returns-in_default c =
-    let top = c.top-symbol.ensures in
-    ap refused_by c.new.ensures ∙ node_sticks c.loop-i.invariant c.loop-i-test.true c.of.ensures c.in-Closes.is (rw (top.0, top.1, top.2) at (sym c.close.ensures ∙ c.in_default.is))
+    let top = c.top.ensures in
+    ap refused_by c.new.ensures ∙ node_sticks c.loop-i.invariant c.loop-i-test.true c.from.ensures c.in-Closes.is (rw (top.0, top.1, top.2) at (sym c.close.ensures ∙ c.in_default.is))
 
 pub close-requires-in-Closes : goal.close-requires-in-Closes
-close-requires-in-Closes c = close_room c.loop-i.invariant c.loop-i-test.true c.of.ensures c.in-Closes.is
+close-requires-in-Closes c = close_room c.loop-i.invariant c.loop-i-test.true c.from.ensures c.in-Closes.is
 
 pub loop-i-preserved : goal.loop-i-preserved
 loop-i-preserved c =
-    elim c.match-of.branch [
-      | in-Opens w ↦ rw (w.stack-is, w.open.ensures) (node_opens c.loop-i.invariant c.loop-i-test.true c.of.ensures w.in-Opens.is)
+    elim c.match-from.branch [
+      | in-Opens w ↦ rw (w.stack-is, w.open.ensures) (node_opens c.loop-i.invariant c.loop-i-test.true c.from.ensures w.in-Opens.is)
       | in-Closes+in-Some w ↦
-          let top = w.top-symbol.ensures in
+          let top = w.top.ensures in
           rw (w.stack-is, w.close-in-Closes.ensures)
-          (node_closes c.loop-i.invariant c.loop-i-test.true c.of.ensures w.in-Closes.is _ _ (rw (top.0, top.1, top.2) at (sym w.close.ensures ∙ w.in-Some.is)))
+          (node_closes c.loop-i.invariant c.loop-i-test.true c.from.ensures w.in-Closes.is _ _ (rw (top.0, top.1, top.2) at (sym w.close.ensures ∙ w.in-Some.is)))
     ]
 
 pub overflow_sub-tree : goal.overflow_sub-tree

@@ -1,7 +1,7 @@
 use native.Mathlib.Omega.{arith}
 use Rattle.std.proofs.lemmas.Slice.Zip.{either_empty_from_Zip}
 use Rattle.rank.proofs.Folding.{fold_begins, fold_goes, fold_fits, fold_ends}
-use Rattle.rank.proofs.fold.Goals as goal
+use Rattle.rank.proofs.Closing.fold.Goals as goal
 
 pub loop-q-init : goal.loop-q-init
 loop-q-init c = rw (c.into_iter-q-iterator.ensures.into_iter_gives, c.zip-q-items.ensures.first, c.iter.ensures.rest, c.zip-q-items.ensures.second.0) (fold_begins c.requires.valued)
