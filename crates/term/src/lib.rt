@@ -236,10 +236,8 @@ fn text_length(lines: &NameLines, tree: &[u16]) -> usize
         return 0;
     };
     let mut sum = first_length(lines, *first);
-    let mut before = *first;
-    for e in rest {
-        sum += entry_length(lines, before, *e);
-        before = *e;
+    for (before, e) in tree.iter().zip(rest) {
+        sum += entry_length(lines, *before, *e);
     }
     sum
 }
@@ -330,10 +328,8 @@ fn put_text(lines: &NameLines, tree: &[u16], text: &mut [u8])
         return;
     };
     let mut at = put_first(lines, *first, text);
-    let mut before = *first;
-    for e in rest {
-        at = put_entry_text(lines, before, *e, text, at);
-        before = *e;
+    for (before, e) in tree.iter().zip(rest) {
+        at = put_entry_text(lines, *before, *e, text, at);
     }
 }
 
