@@ -9,7 +9,7 @@ use model::{Kind, Refusal};
 use names::{is_letter, is_name_byte};
 
 // What has been read of a text, `depth` brackets being open.
-#[derive(Clone, Copy)]
+#[derive(Clone, Copy, PartialEq, Eq, Debug)]
 pub enum TextState {
     // a name must begin here
     Due { depth: usize },
@@ -47,28 +47,30 @@ fn after_name(depth: usize, bytes: usize, b: u8) -> Option<TextState>
     }
 }
 
-// Reads one byte; nothing where no term can go on with it.
-#[tactic(auto, unfolding(model::specs::Term::step))]
-fn next_byte(r: TextState, b: u8) -> Option<TextState>
-    requires { depth_of (seen r) < 65536 }
-    ensures { seen_step result ≡ step (seen r) b }
-{
-    match r {
-        TextState::Due { depth } if is_letter(b) => Some(TextState::InName { depth, bytes: 1 }),
-        TextState::Due { .. } => None,
-        TextState::InName { depth, bytes } => after_name(depth, bytes, b),
-        TextState::Closed { depth } => after_term(depth, b),
+impl TextState {
+    // Reads one byte; nothing where no term can go on with it.
+    #[tactic(auto, unfolding(model::specs::Term::step))]
+    fn step(self, b: u8) -> Option<TextState>
+        requires { depth_of (seen self) < 65536 }
+        ensures { seen_step result ≡ step (seen self) b }
+    {
+        match self {
+            TextState::Due { depth } if is_letter(b) => Some(TextState::InName { depth, bytes: 1 }),
+            TextState::Due { .. } => None,
+            TextState::InName { depth, bytes } => after_name(depth, bytes, b),
+            TextState::Closed { depth } => after_term(depth, b),
+        }
     }
-}
 
-// Whether the text may end here.
-fn may_end(r: TextState) -> bool
-    ensures { result ≡ may_end (seen r) }
-{
-    matches!(
-        r,
-        TextState::InName { depth: 0, .. } | TextState::Closed { depth: 0 }
-    )
+    // Whether the text may end here.
+    fn may_end(self) -> bool
+        ensures { result ≡ may_end (seen self) }
+    {
+        matches!(
+            self,
+            TextState::InName { depth: 0, .. } | TextState::Closed { depth: 0 }
+        )
+    }
 }
 
 // Refusal 19 at the first byte with which no term can go on, or at the text's length where it ends too soon.
@@ -78,9 +80,9 @@ pub fn scan_text(text: &[u8]) -> Result<(), Refusal>
 {
     let mut r = TextState::Due { depth: 0 };
     for (i, b) in text.iter().enumerate() {
-        r = next_byte(r, *b).ok_or(Refusal::new(Kind::NotATerm, i))?;
+        r = r.step(*b).ok_or(Refusal::new(Kind::NotATerm, i))?;
     }
-    if may_end(r) {
+    if r.may_end() {
         Ok(())
     } else {
         Err(Refusal::new(Kind::NotATerm, text.len()))

@@ -4,6 +4,7 @@ use Prim.Native.Nat.{ℕ, suc, ◌+◌, ◌-◌, ◌*◌, ◌<◌, ◌≤◌}
 use mathlib.Core.Path.{◌≡◌, refl, sym, ap, subst, ◌∙◌}
 use mathlib.Core.Bool.{Bool, true, false}
 use mathlib.Core.List.{List, [], ◌∷◌, ◌++◌}
+use mathlib.Core.Logic.{◌⊎◌, inl, inr}
 use native.Mathlib.Omega.{arith}
 use native.Mathlib.Nat.{pos_of_ne-zero}
 use lib.ListN.{length, get_or, drop, set, length-append, drop_of_length-le}
@@ -149,16 +150,6 @@ module _ {names starts : List ℕ} {n : ℕ} (x : Lined names starts n) (e : ℕ
 
 -- ---- the entries in turn
 
--- the entries from i on
-pub letters_next : (names tree : List ℕ) (mark i : ℕ) → i < length tree
-    → entries_text names mark (drop i tree) ≡ entry_text names mark (get_or tree i 0) ++ entries_text names (mark_after (get_or tree i 0)) (drop (i + 1) tree)
-unfolding entries_text
-letters_next names tree mark i l = rw (drop_next tree i l)
-
-pub letters_end : (names tree : List ℕ) (mark i : ℕ) → length tree ≤ i → entries_text names mark (drop i tree) ≡ []
-unfolding entries_text
-letters_end names tree mark i ge = rw (drop_of_length-le tree {i = i} ge)
-
 -- the first entry, and the others
 pub entries_first : (names tree : List ℕ) (first : ℕ) (rest : List ℕ) → tree ≡ first ∷ rest → entries_text names 0 tree ≡ entry_text names 0 first ++ entries_text names (mark_after first) rest
 unfolding entries_text
@@ -169,42 +160,86 @@ unfolding entries_text
 entries_none names [] e = refl
 entries_none names (x ∷ xs) e = absurd (omega arith)
 
-pub named_next : {n : ℕ} {tree : List ℕ} → EntriesNamed n tree → (first : ℕ) (rest : List ℕ) → tree ≡ first ∷ rest → (i : ℕ) → i < length rest → get_or rest i 0 ≤ n
-named_next {n} x first rest e i l =
-    let k = ap length e in
-    subst (λ (t : List ℕ). get_or t (suc i) 0 ≤ n) e (x.named (suc i) (omega arith))
+-- the entries that still come, each with the one before it, are the symbols of names
+pub record Paired (n : ℕ) (befores es : List ℕ) : Type 0 where
+  pub before : ℕ
+  pub pairs : befores ≡ before ∷ es
+  pub named : (i : ℕ) → i < length es → get_or es i 0 ≤ n
 
--- the lengths of the entries before i of the others, and of the first
-pub record Summed (names rest : List ℕ) (total sum mark i : ℕ) : Type 0 where
-  pub within : i ≤ length rest
-  pub sums : sum + length (entries_text names mark (drop i rest)) ≡ total
-  pub small : sum ≤ 25 * (i + 1)
+paired_first : {n : ℕ} {tree : List ℕ} → EntriesNamed n tree → (first : ℕ) (rest : List ℕ) → tree ≡ first ∷ rest → Paired n tree rest
+paired_first {n} x first rest e = record {
+  before = first;
+  pairs = e;
+  named = λ i l. let k = ap length e in subst (λ (t : List ℕ). get_or t (suc i) 0 ≤ n) e (x.named (suc i) (omega arith));
+}
 
-pub sum_first : (names tree : List ℕ) (first : ℕ) (rest : List ℕ) → tree ≡ first ∷ rest → (k : ℕ) → (k ≡ length (entry_text names 0 first)) × (k ≤ 25)
-    → Summed names rest (length (entries_text names 0 tree)) k (mark_after first) 0
-sum_first names tree first rest e k g =
+module _ {n : ℕ} {befores es befores' es' : List ℕ} {b e : ℕ} (x : Paired n befores es) (s : (befores ≡ b ∷ befores') × (es ≡ e ∷ es')) where
+  same_before : x.before ≡ b
+  same_before = let p = sym x.pairs ∙ s.0 in cc
+
+  paired_next : Paired n befores' es'
+  paired_next = record {
+    before = e;
+    pairs = let p = sym x.pairs ∙ s.0 in cc;
+    named = λ i l. let k = ap length s.1 in subst (λ (t : List ℕ). get_or t (suc i) 0 ≤ n) s.1 (x.named (suc i) (omega arith));
+  }
+
+  pub entry_named : e ≤ n
+  entry_named = let k = ap length s.1 in subst (λ (t : List ℕ). get_or t 0 0 ≤ n) s.1 (x.named 0 (omega arith))
+
+  next_text : (names : List ℕ) → entries_text names (mark_after x.before) es ≡ entry_text names (mark_after b) e ++ entries_text names (mark_after e) es'
+  unfolding entries_text
+  next_text names = ap (λ (k : ℕ). entries_text names (mark_after k) es) same_before ∙ ap (entries_text names (mark_after b)) s.1
+
+-- at the end nothing is left
+none_left : {n : ℕ} {befores es : List ℕ} (x : Paired n befores es) → (befores ≡ []) ⊎ (es ≡ []) → es ≡ []
+none_left x (inl e) = let p = sym x.pairs ∙ e in cc
+none_left x (inr e) = e
+
+no_text : (names : List ℕ) (mark : ℕ) {es : List ℕ} → es ≡ [] → entries_text names mark es ≡ []
+unfolding entries_text
+no_text names mark e = ap (entries_text names mark) e
+
+-- the lengths of the entries so far
+pub record Summed (names : List ℕ) (n total sum : ℕ) (befores es : List ℕ) : Type 0 where
+  pub paired : Paired n befores es
+  pub sums : sum + length (entries_text names (mark_after paired.before) es) ≡ total
+  pub small : sum + 25 * length es ≤ 102400
+
+pub sum_first : {n : ℕ} (names tree : List ℕ) → EntriesNamed n tree → (first : ℕ) (rest : List ℕ) → tree ≡ first ∷ rest → (k : ℕ) → (k ≡ length (entry_text names 0 first)) × (k ≤ 25)
+    → Summed names n (length (entries_text names 0 tree)) k tree rest
+unfolding paired_first
+sum_first names tree x first rest e k g =
     let a = ap length (entries_first names tree first rest e) in
-    record { within = omega arith; sums = omega (arith, g.0, a, length-append (entry_text names 0 first) (entries_text names (mark_after first) rest)); small = omega (arith, g.1) }
+    let l = ap length e in
+    record {
+      paired = paired_first x first rest e;
+      sums = omega (arith, g.0, a, length-append (entry_text names 0 first) (entries_text names (mark_after first) rest));
+      small = omega (arith, g.1, l, x.few);
+    }
 
-pub sum_next : {names rest : List ℕ} {total sum mark i : ℕ} → Summed names rest total sum mark i → i < length rest → (k : ℕ)
-    → (k ≡ length (entry_text names mark (get_or rest i 0))) × (k ≤ 25) → Summed names rest total (sum + k) (mark_after (get_or rest i 0)) (i + 1)
-sum_next {names} {rest} {total} {sum} {mark} {i} x l k g =
-    let a = ap length (letters_next names rest mark i l) in
-    let b = length-append (entry_text names mark (get_or rest i 0)) (entries_text names (mark_after (get_or rest i 0)) (drop (i + 1) rest)) in
-    record { within = omega arith; sums = omega (arith, x.sums, g.0); small = omega (arith, x.small, g.1) }
+pub sum_next : {names befores es befores' es' : List ℕ} {n total sum b e : ℕ} (x : Summed names n total sum befores es) (s : (befores ≡ b ∷ befores') × (es ≡ e ∷ es')) (k : ℕ)
+    → (k ≡ length (entry_text names (mark_after b) e)) × (k ≤ 25) → Summed names n total (sum + k) befores' es'
+unfolding paired_next
+sum_next {names} {befores} {es} {befores'} {es'} {n} {total} {sum} {b} {e} x s k g =
+    let a = ap length (next_text x.paired s names) in
+    let c = length-append (entry_text names (mark_after b) e) (entries_text names (mark_after e) es') in
+    let l = ap length s.1 in
+    record { paired = paired_next x.paired s; sums = omega (arith, x.sums, g.0); small = omega (arith, x.small, g.1) }
 
-pub sum_last : {names rest : List ℕ} {total sum mark i : ℕ} → Summed names rest total sum mark i → length rest ≤ i → sum ≡ total
-sum_last {names} {rest} {total} {sum} {mark} {i} x ge = let a = ap length (letters_end names rest mark i ge) in omega (arith, x.sums)
+pub sum_last : {names befores es : List ℕ} {n total sum : ℕ} (x : Summed names n total sum befores es) → (befores ≡ []) ⊎ (es ≡ []) → sum ≡ total
+sum_last {names} x e = let a = ap length (no_text names (mark_after x.paired.before) (none_left x.paired e)) in omega (arith, x.sums)
 
--- the bytes of the first entry, and of the others before i, are written
-pub record Lettered (names rest all old new : List ℕ) (at mark i : ℕ) : Type 0 where
-  pub within : i ≤ length rest
-  pub writes : Writing old new all (entries_text names mark (drop i rest)) at
+-- the bytes of the entries so far are written
+pub record Lettered (names : List ℕ) (n : ℕ) (all old new : List ℕ) (at : ℕ) (befores es : List ℕ) : Type 0 where
+  pub paired : Paired n befores es
+  pub writes : Writing old new all (entries_text names (mark_after paired.before) es) at
 
-pub letter_first : (names tree old new : List ℕ) (first : ℕ) (rest : List ℕ) (at : ℕ) → tree ≡ first ∷ rest → length (entries_text names 0 tree) ≤ length old → Put old new (entry_text names 0 first) 0 at
-    → Lettered names rest (entries_text names 0 tree) old new at (mark_after first) 0
-letter_first names tree old new first rest at e l p = record {
-  within = omega arith;
+pub letter_first : {n : ℕ} (names tree old new : List ℕ) → EntriesNamed n tree → (first : ℕ) (rest : List ℕ) (at : ℕ) → tree ≡ first ∷ rest → length (entries_text names 0 tree) ≤ length old
+    → Put old new (entry_text names 0 first) 0 at → Lettered names n (entries_text names 0 tree) old new at tree rest
+unfolding paired_first
+letter_first names tree old new x first rest at e l p = record {
+  paired = paired_first x first rest e;
   writes =
       piece_put (entry_text names 0 first) (entries_text names (mark_after first) rest)
       (subst (λ (x : List ℕ). Writing old old (entries_text names 0 tree) x 0) (entries_first names tree first rest e) (writing_first old (entries_text names 0 tree) l)) new at p;
@@ -218,21 +253,22 @@ first_fits names tree first rest e l =
 pub letter_none : (names tree old : List ℕ) → length tree ≡ 0 → Front old old (entries_text names 0 tree)
 letter_none names tree old e = record { holds = ap (λ (t : List ℕ). t ++ drop (length t) old) (sym (entries_none names tree e)) }
 
-module _ {names rest all old new : List ℕ} {at mark i : ℕ} (x : Lettered names rest all old new at mark i) (l : i < length rest) where
-  next_entry : Writing old new all (entry_text names mark (get_or rest i 0) ++ entries_text names (mark_after (get_or rest i 0)) (drop (i + 1) rest)) at
-  next_entry = rw (letters_next names rest mark i l) at x.writes
+module _ {names all old new befores es befores' es' : List ℕ} {n at b e : ℕ} (x : Lettered names n all old new at befores es) (s : (befores ≡ b ∷ befores') × (es ≡ e ∷ es')) where
+  next_entry : Writing old new all (entry_text names (mark_after b) e ++ entries_text names (mark_after e) es') at
+  next_entry = rw (next_text x.paired s names) at x.writes
 
-  pub letter_fits : at + length (entry_text names mark (get_or rest i 0)) ≤ length new
-  letter_fits = piece_fits (entry_text names mark (get_or rest i 0)) (entries_text names (mark_after (get_or rest i 0)) (drop (i + 1) rest)) next_entry
+  pub letter_fits : at + length (entry_text names (mark_after b) e) ≤ length new
+  letter_fits = piece_fits (entry_text names (mark_after b) e) (entries_text names (mark_after e) es') next_entry
 
-  pub letter_put : (new' : List ℕ) (next : ℕ) → Put new new' (entry_text names mark (get_or rest i 0)) at next → Lettered names rest all old new' next (mark_after (get_or rest i 0)) (i + 1)
+  pub letter_put : (new' : List ℕ) (next : ℕ) → Put new new' (entry_text names (mark_after b) e) at next → Lettered names n all old new' next befores' es'
+  unfolding paired_next
   letter_put new' next p = record {
-    within = omega arith;
-    writes = piece_put (entry_text names mark (get_or rest i 0)) (entries_text names (mark_after (get_or rest i 0)) (drop (i + 1) rest)) next_entry new' next p;
+    paired = paired_next x.paired s;
+    writes = piece_put (entry_text names (mark_after b) e) (entries_text names (mark_after e) es') next_entry new' next p;
   }
 
-pub letter_last : {names rest all old new : List ℕ} {at mark i : ℕ} → Lettered names rest all old new at mark i → length rest ≤ i → Front old new all
-letter_last {names} {rest} {all} {old} {new} {at} {mark} {i} x ge = record { holds = writing_last (rw (letters_end names rest mark i ge) at x.writes) }
+pub letter_last : {names all old new befores es : List ℕ} {n at : ℕ} (x : Lettered names n all old new at befores es) → (befores ≡ []) ⊎ (es ≡ []) → Front old new all
+letter_last {names} x e = record { holds = writing_last (rw (no_text names (mark_after x.paired.before) (none_left x.paired e)) at x.writes) }
 
 -- a mark, then a name
 pub marked : (old new name : List ℕ) (at mark next : ℕ) → at + length (mark ∷ name) ≤ length old → Put (set old at mark) new name (at + 1) next → Put old new (mark ∷ name) at next

@@ -80,8 +80,7 @@ struct Entries {
 impl Entries {
     // Adds a symbol, and keeps it where there is room.
     fn push(&mut self, symbol: u8)
-        requires long { length self.old.kept ≡ 4096 }
-        requires fits { self.old.count + 1 < 2 ^ 64 }
+        requires { self.old.count + 1 < 2 ^ 64 }
         ensures kept { SymbolPut self.old.kept self.new.kept self.old.count symbol }
         ensures count { self.new.count ≡ self.old.count + 1 }
     {
@@ -93,7 +92,6 @@ impl Entries {
 
     // Puts them at the front of the list, where they are not too many and there is room.
     fn put_into(&self, tree: &mut [u16]) -> Answer
-        requires { length self.now.kept ≡ 4096 }
         ensures { Gave (fits_in 4096 self.now.count (length tree.old)) (take self.now.count self.now.kept) tree.old tree.new result }
     {
         if 4096 < self.count {
@@ -102,8 +100,18 @@ impl Entries {
         if tree.len() < self.count {
             return Err(Refusal::new(Kind::ShortTermTree, self.count));
         }
-        put_front(&self.kept, self.count, tree);
+        self.put_front(tree);
         Ok(self.count as u64)
+    }
+
+    // Puts them at the front of the list. (By index: of a list whose places go through an adapter, as `iter_mut().zip(..)`, nothing is known at its end.)
+    fn put_front(&self, tree: &mut [u16])
+        requires { (self.now.count ≤ 4096) × (self.now.count ≤ length tree.old) }
+        ensures { Front tree.old tree.new (take self.now.count self.now.kept) }
+    {
+        for (i, e) in self.kept[..self.count].iter().enumerate() {
+            tree[i] = u16::from(*e);
+        }
     }
 }
 
@@ -135,16 +143,6 @@ fn read_text(list: &NamesList, text: &[u8], entries: &mut Entries) -> Result<(),
                 i = place;
             }
         }
-    }
-}
-
-// Puts the first entries, so many, at the front of the list.
-fn put_front(entries: &[u8; 4096], count: usize, tree: &mut [u16])
-    requires { (length entries.now ≡ 4096) × (count ≤ 4096) × (count ≤ length tree.old) }
-    ensures { Front tree.old tree.new (take count entries.now) }
-{
-    for (i, e) in entries[..count].iter().enumerate() {
-        tree[i] = u16::from(*e);
     }
 }
 
@@ -238,10 +236,8 @@ fn text_length(lines: &NameLines, tree: &[u16]) -> usize
         return 0;
     };
     let mut sum = first_length(lines, *first);
-    let mut before = *first;
-    for e in rest {
-        sum += entry_length(lines, before, *e);
-        before = *e;
+    for (before, e) in tree.iter().zip(rest) {
+        sum += entry_length(lines, *before, *e);
     }
     sum
 }
@@ -332,10 +328,8 @@ fn put_text(lines: &NameLines, tree: &[u16], text: &mut [u8])
         return;
     };
     let mut at = put_first(lines, *first, text);
-    let mut before = *first;
-    for e in rest {
-        at = put_entry_text(lines, before, *e, text, at);
-        before = *e;
+    for (before, e) in tree.iter().zip(rest) {
+        at = put_entry_text(lines, *before, *e, text, at);
     }
 }
 
