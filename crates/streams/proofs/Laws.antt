@@ -16,6 +16,11 @@ pub logged_none : (digest : ℕ) → Logged digest digest []
 unfolding digest_after
 logged_none digest = refl
 
+-- one entry came
+pub logged_one : (before after : ℕ) (e : Entry) → after ≡ with_entry before e → Logged before after (e ∷ [])
+unfolding digest_after
+logged_one before after e given = given
+
 -- more came after some
 pub logged_both : (a : ℕ) {b c : ℕ} (xs ys : List Entry) → Logged a b xs → Logged b c ys → Logged a c (xs ++ ys)
 unfolding digest_after

@@ -26,7 +26,7 @@ pub struct Stdio {
 }
 
 // An entry of the log.
-#[derive(Clone, Copy)]
+#[derive(Clone, Copy, PartialEq, Eq, Debug)]
 pub enum Entry {
     // a byte was read; a byte was handed to a write
     ByteRead(u8),
@@ -40,16 +40,18 @@ pub enum Entry {
 }
 
 // The number of an entry: no two have the same.
-fn entry_number(entry: Entry) -> u64
-    ensures { result ≡ entry_number entry }
-{
-    match entry {
-        Entry::ByteRead(b) => u64::from(b),
-        Entry::ByteWritten(b) => 256 + u64::from(b),
-        Entry::ReadReturned => 512,
-        Entry::EndOfInput => 513,
-        Entry::ReadFailed => 514,
-        Entry::WriteFailed => 515,
+impl From<Entry> for u64 {
+    ghost from_gives = { λ e n. n ≡ entry_number e };
+
+    fn from(entry: Entry) -> u64 {
+        match entry {
+            Entry::ByteRead(b) => u64::from(b),
+            Entry::ByteWritten(b) => 256 + u64::from(b),
+            Entry::ReadReturned => 512,
+            Entry::EndOfInput => 513,
+            Entry::ReadFailed => 514,
+            Entry::WriteFailed => 515,
+        }
     }
 }
 
@@ -57,7 +59,7 @@ fn entry_number(entry: Entry) -> u64
 fn with_entry(digest: u64, entry: Entry) -> u64
     ensures { result ≡ with_entry digest entry }
 {
-    (digest % 4294967296 * 16777619 + entry_number(entry) + 1) % 4294967296
+    (digest % 4294967296 * 16777619 + u64::from(entry) + 1) % 4294967296
 }
 
 // The digest with an entry more for each byte.
@@ -136,7 +138,7 @@ impl Stdio {
 }
 
 // Why a read or a write failed: the library's text, without the system's number for the error, which it adds in brackets.
-#[derive(Clone, Copy)]
+#[derive(Clone, Copy, Debug)]
 pub struct Reason(pub io::Error);
 
 impl Display for Reason {
