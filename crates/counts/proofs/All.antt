@@ -102,17 +102,6 @@ pub record Counting (states : ℕ) (rows : List Row) (counts₀ marks₀ sums₀
   pub above : (a : ℕ) → q ≤ a → held counts a ≡ 0
   pub earlier : (k : ℕ) → k < length rows → target rows k < q → get_or sums k 0 ≡ min (earlier_rows rows (count (row_table states rows)) (target rows k) k) top
 
-pub counting_begins : (states : ℕ) (rows : List Row) (counts marks sums : List ℕ) → ((a : ℕ) → held counts a ≡ 0) → Counting states rows counts marks sums counts marks sums 0
-counting_begins states rows counts marks sums blank = record {
-  within = omega arith;
-  counts_long = refl;
-  marks_long = refl;
-  sums_long = refl;
-  each = λ a lt. absurd (omega arith);
-  above = λ a ge. blank a;
-  earlier = λ k lt h. absurd (omega arith);
-}
-
 module _ {states : ℕ} {pool words first counts₀ marks₀ sums₀ counts marks sums : List ℕ} {q : ℕ} (h : Held pool words (length words))
     (g : CountReady states (rows_in pool words) first counts₀ marks₀ sums₀)
     (x : Counting states (rows_in pool words) counts₀ marks₀ sums₀ counts marks sums q) (lt : q < states) where

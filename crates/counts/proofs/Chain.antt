@@ -12,7 +12,7 @@ use Rattle.model.specs.Table.{Row}
 use Rattle.model.proofs.Counting.{get_d_map}
 use Rattle.rows.specs.Words.{with_after, target_in, next_in, after_in, row_in, rows_in, nexts, afters, Inside, Held}
 use Rattle.rows.proofs.Words.{map_set, next_kept, after_put, row_kept, inside_kept, rows_long, row_held_lem}
-use Rattle.counts.specs.Chain.{target, leads, TargetLink, ChainedFrom, Chained, Onward, Comes, Unchained, Chainable, ChainedRows}
+use Rattle.counts.specs.Chain.{target, leads, TargetLink, ChainedFrom, Chained, Onward, Comes, Unchained, Chainable}
 
 -- a link that leads to a row is 1 more than its number
 pub leads_row : (p n : ℕ) → 0 < p → leads p n ≡ p - 1
@@ -185,15 +185,3 @@ module _ {pool words₀ first₀ words first : List ℕ} {m : ℕ} (x : Chaining
         chained = rw afters_more (chain_more x.chained (m - 1) t (omega arith) (rw (rows_long pool words₀) (omega (arith, x.within))) (rw (length-map words after_in) row_room) target_is target_room);
         bare = λ r l. rw (get_or-set_other words (m - 1) r (with_after word link) 0 (λ e. omega arith)) (x.bare r (omega arith));
       }
-
-pub chaining_ends : {pool words₀ first₀ words first : List ℕ} {m : ℕ} → Chaining pool words₀ first₀ words first m → m ≤ 0 → ChainedRows pool words₀ first₀ words first
-chaining_ends {pool} {words₀} {first₀} {words} {first} {m} x le =
-    let z : m ≡ 0 = omega arith in
-    record {
-      long = x.long;
-      first_long = x.first_long;
-      same = x.same;
-      links = x.links;
-      held = x.held;
-      chained = rw x.same (rw z at x.chained);
-    }

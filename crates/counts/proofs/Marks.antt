@@ -1,7 +1,7 @@
 -- What marks tell, and what their sum over a row's arguments tells. Assumes nothing.
-use Rattle.std.specs.Prelude.{if◌then◌else◌, Option, Some as counted, None}
+use Rattle.std.specs.Prelude.{if◌then◌else◌, Option, Some as counted}
 use Prim.Native.Nat.{ℕ, suc, ◌+◌, ◌*◌, ◌%◌, ◌^◌, ◌<◌, ◌≤◌, min}
-use mathlib.Core.Path.{◌≡◌, refl, sym, ap, ◌∙◌, subst}
+use mathlib.Core.Path.{◌≡◌, refl, sym, ap, ◌∙◌}
 use mathlib.Core.List.{List, [], ◌∷◌, ◌++◌, map}
 use mathlib.Core.Logic.{◌⊎◌, inl, inr}
 use native.Mathlib.Nat.{mul-zero, zero-mul, mul_comm, mul-pos, mul-le-mul, le_trans, le_of_eq, eq-zero-or-pos, le-mul_of_pos_right, lt_of_not-le}
@@ -12,9 +12,9 @@ use lib.Dec.{ltb}
 use lib.Pow.{pow-add, pow_mono}
 use borrow.Author.Tests.{lt-ltb, le-ltb, le-leb, lt-leb}
 use Rattle.model.specs.Count.{sum, product}
-use Rattle.counts.specs.Marks.{top, ceiling, long_ceiling, long_in, bits_in, empty_in, Roomy, Tells}
+use Rattle.counts.specs.Marks.{top, ceiling, long_in, bits_in, empty_in, Roomy, Tells}
 use Rattle.counts.specs.Kept.{Is}
-use Rattle.counts.specs.States.{held, held_whole, held_long, Marked, MarksTell, Some, Fits, Weighable, weight_by}
+use Rattle.counts.specs.States.{held, held_whole, held_long, Marked, MarksTell, Weighable, weight_by}
 use Rattle.counts.proofs.KeptCounts.{is_same}
 use Rattle.counts.proofs.Folds.{of_item, sum_split}
 
@@ -23,33 +23,6 @@ use Rattle.counts.proofs.Folds.{of_item, sum_split}
 -- a mark is its parts
 mark_parts : (m : ℕ) → Roomy m → m ≡ long_in m + 1048576 * bits_in m + 1099511627776 * empty_in m
 mark_parts m r = omega (arith, r.empty)
-
-pub tells_empty : (longest : ℕ) → Tells 1099511627776 0 longest
-tells_empty longest = record {
-  roomy = record { long = omega arith; bits = omega arith; empty = omega arith };
-  none = λ _. (refl, omega arith);
-  some = λ p. absurd (omega arith);
-  bits = inl (omega arith, omega arith, omega arith);
-}
-
-pub tells_beyond : (longest : ℕ) → longest ≤ long_ceiling → Tells (4294967296 + longest) ceiling longest
-tells_beyond longest l = record {
-  roomy = record { long = omega arith; bits = omega arith; empty = omega arith };
-  none = λ p. absurd (omega arith);
-  some = λ z. (omega arith, omega arith);
-  bits = inr (omega arith, omega arith);
-}
-
-pub tells_bits : (count longest b : ℕ) → longest ≤ long_ceiling → 0 < count → count < ceiling → (count ≤ 2 ^ b) × (b ≤ 64)
-    → Tells (1048576 * b + longest) count longest
-tells_bits count longest b l p t h =
-    let here : bits_in (1048576 * b + longest) ≡ b = omega (arith, h.1) in
-    record {
-      roomy = record { long = omega (arith, h.1); bits = omega (arith, h.1); empty = omega (arith, h.1) };
-      none = λ q. absurd (omega (arith, h.1));
-      some = λ z. (p, omega (arith, h.1));
-      bits = inl (omega (arith, h.1), subst (λ (n : ℕ). count ≤ 2 ^ n) (sym here) h.0, omega arith);
-    }
 
 -- ---- sums of parts
 
@@ -164,25 +137,6 @@ by_product s p l = rw (lt-leb 1099511627776 s (omega arith), lt-leb 4294967296 s
 
 pub weighed_none : (s p : ℕ) → 1099511627776 ≤ s → Is (counted 0) (weight_by s p)
 weighed_none s p l = let e = by_empty s p l in (omega (arith, e), sym e)
-
-pub weighed_beyond : (s p : ℕ) → s < 1099511627776 → 4294967296 ≤ s → Is None (weight_by s p)
-weighed_beyond s p l m = λ h. omega (arith, h, by_beyond s p l m)
-
-pub weighed_wide : (s p : ℕ) (k : Option ℕ) → s < 4294967296 → Is k p → Is k (weight_by s p)
-weighed_wide s p k l i = is_same k p _ i (sym (ap (λ (n : ℕ). min n ceiling) (by_product s p l)))
-
-module _ {s : ℕ} {counts args : List ℕ} (w : Weighable s counts args) where
-  pub wide_some : s < 4294967296 → Some counts args
-  wide_some l = record { placed = w.placed; some = w.some l }
-
-  pub plain_fits : s < 67108864 → Fits counts args
-  plain_fits l = record { some = wide_some (omega arith); fits = w.plain l }
-
-  pub weighed_plain : s < 67108864 → (x : ℕ) → x ≡ product (map (held counts) args) → Is (counted x) (weight_by s (product (map (held counts) args)))
-  weighed_plain l x e = weighed_wide s _ (counted x) (omega arith) (omega (arith, w.plain l), e)
-
-  pub weighed_one : s < 1048576 → Is (counted 1) (weight_by s (product (map (held counts) args)))
-  weighed_one l = weighed_plain (omega arith) 1 (sym (w.one l))
 
 pub marks_placed : {counts marks args : List ℕ} → MarksTell counts marks args → Marked marks args
 marks_placed t = record { few = t.few; placed = t.placed; roomy = λ k l. (t.each k l).roomy }

@@ -3,10 +3,10 @@ use Prim.Native.Nat.{ℕ, ◌*◌, ◌-◌, ◌%◌, ◌<◌, ◌≤◌}
 use mathlib.Core.Path.{◌≡◌, refl}
 use mathlib.Core.List.{List, [], ◌∷◌}
 use native.Mathlib.Omega.{arith}
-use native.Mathlib.Nat.{mod-lt, div-lt_iff_lt-mul, mul-lt-mul_of_pos_right, mul-le-mul, mul_comm}
+use native.Mathlib.Nat.{mod-lt, div-lt_iff_lt-mul, mul-lt-mul_of_pos_right, mul_comm}
 use lib.ListN.{length, get_or, take, drop, length-drop}
 use Rattle.std.proofs.lemmas.List.{take_all}
-use Rattle.index.specs.Hash.{two, four, fours, mix, mix_all, spread_over, Multiplier}
+use Rattle.index.specs.Hash.{two, four, fours, mix, mix_all, spread_over}
 
 -- the last arguments: none, one, two or three
 pub rest_none : (by h : ℕ) (l : List ℕ) → length l < 1 → h ≡ mix_all by h (fours l)
@@ -55,13 +55,3 @@ spread_below by size h pos =
     let l : h * by % 4294967296 * size < size * 4294967296 =
     rw (mul_comm size 4294967296) (mul-lt-mul_of_pos_right (mod-lt (h * by) k) pos) in
     (div-lt_iff_lt-mul {k = 4294967296} {x = h * by % 4294967296 * size} {y = size} k).1 l
-
-pub product_fits : (y size : ℕ) → size ≤ 65536 → y % 4294967296 * size ≤ 4294967296 * 65536
-product_fits y size le =
-    let k : 0 < 4294967296 = omega arith in
-    let l : y % 4294967296 ≤ 4294967296 = omega (arith, mod-lt y k) in
-    mul-le-mul l le
-
--- a hash and a multiplier: the product fits
-pub hash_fits : (h by : ℕ) → h < 4294967296 → Multiplier by → h * by ≤ 4294967295 * 3221225472
-hash_fits h by l m = let a : h ≤ 4294967295 = omega arith in let b : by ≤ 3221225472 = omega arith in mul-le-mul a b

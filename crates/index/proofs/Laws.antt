@@ -1,6 +1,6 @@
 -- Laws of the index. Assumes nothing.
-use Rattle.std.specs.Prelude.{Option, Some, None, is_some, Ok, Err}
-use Prim.Native.Nat.{ℕ, zero, suc, ◌+◌, ◌-◌, ◌*◌, ◌/◌, ◌%◌, ◌<◌, ◌≤◌}
+use Rattle.std.specs.Prelude.{Option, Some, None, is_some, Ok}
+use Prim.Native.Nat.{ℕ, zero, suc, ◌+◌, ◌-◌, ◌*◌, ◌/◌, ◌%◌, ◌<◌}
 use mathlib.Core.Path.{◌≡◌, refl, sym, ap, ◌∙◌}
 use mathlib.Core.Bool.{Bool, true, false, ◌&&◌}
 use mathlib.Core.List.{List}
@@ -20,7 +20,6 @@ use Rattle.chains.proofs.Chains.{chained, chains_begin}
 use Rattle.rows.specs.Words.{symbol_in, next_in, nexts, args_in, row_in, row_no, row_held, rows_in, Inside, Held}
 use Rattle.rows.proofs.Words.{args_long, rows_long, row_held_lem}
 use Rattle.index.specs.Hash.{hash_of, Multiplier, Sized}
-use Rattle.index.specs.declared.Crowded.{Crowded}
 use Rattle.index.specs.Index.{found_by, repeated_by, row_bucket, IndexBy, row_found, Index, SoughtRow}
 
 -- ---- rows that agree
@@ -51,9 +50,6 @@ chains_same {f} {g} {size} {room} {n} {heads} {next} h x = record {
 }
 
 module _ (row also : ℕ → Row) (n : ℕ) (h : (k : ℕ) → k < n → row k ≡ also k) where
-  pub found_same : (s : ℕ) (xs : List ℕ) → found_by row n s xs ≡ found_by also n s xs
-  found_same s xs = first_same _ _ n (λ k l. ap (λ (r : Row). row_is r s xs) (h k l))
-
   pub earlier_same : (s : ℕ) (xs : List ℕ) → any_below n (λ j. row_is (row j) s xs) ≡ any_below n (λ j. row_is (also j) s xs)
   earlier_same s xs = any_same _ _ n (λ j l. ap (λ (r : Row). row_is r s xs) (h j l))
 
@@ -74,9 +70,6 @@ module _ (row also : ℕ → Row) (n : ℕ) (h : (k : ℕ) → k < n → row k �
 module _ (pool words : List ℕ) where
   held_at : (k : ℕ) → k < length words → row_held pool words k ≡ row_no (rows_in pool words) k
   held_at k l = sym (row_held_lem pool words k l)
-
-  pub listed_found : (s : ℕ) (xs : List ℕ) → found_by (row_held pool words) (length words) s xs ≡ row_found (rows_in pool words) s xs
-  listed_found s xs = rw (rows_long pool words) (found_same _ _ (length words) held_at s xs)
 
   pub listed_index : {by size room : ℕ} {heads next : List ℕ} → IndexBy by size room (row_held pool words) (length words) heads next → IndexBy by size room (row_no (rows_in pool words)) (length (rows_in pool words)) heads next
   listed_index x = rw (rows_long pool words) (index_same _ _ (length words) held_at x)
@@ -174,9 +167,6 @@ module _ (found : Option ℕ) (most n : ℕ) where
 
   pub sought_nowhere : None ≡ found → SoughtRow found most n (Ok None)
   sought_nowhere e = record { sought = λ f h. let z : None ≡ f = cc in rw (← z) e; crowded = λ _ h. cc }
-
-  pub sought_crowded : (e : Crowded) → most ≤ n → SoughtRow found most n (Err e)
-  sought_crowded e le = record { sought = λ f h. cc; crowded = λ _ h. le }
 
 -- ---- the index of words by number, and of the list of their rows
 

@@ -14,7 +14,7 @@ use Rattle.model.specs.Table.{Row, row_is}
 use Rattle.rows.specs.Words.{a_row, word_of, next_in, nexts, row_in, row_held, Apart}
 use Rattle.rows.proofs.Words.{apart, row_of_lem, map_set}
 use Rattle.index.specs.declared.Crowded.{Crowded}
-use Rattle.index.specs.declared.TakeError.TheVariants.{Refused, Crowded as TakeCrowded}
+use Rattle.index.specs.declared.TakeError.TheVariants.{Refused}
 use Rattle.index.specs.Hash.{hash_of}
 use Rattle.index.specs.Index.{found_by, repeated_by, row_bucket, IndexBy, SoughtRow, Enterable, EnteredRow}
 use Rattle.index.proofs.Laws.{index_same, earlier_same, earlier_by, indexed}
@@ -47,9 +47,6 @@ module _ {by most : ℕ} {pool words heads : List ℕ} {n symbol target from : �
     refusal = λ g h. let z : r ≡ g = cc in rw z at said;
     crowds = λ h. cc;
   }
-
-  pub enter_crowded : (k : Crowded) → o ≡ Err k → EnteredRow by most pool words heads words heads n symbol target from args (Err TakeCrowded)
-  enter_crowded k e = record { enters = λ h. cc; repeats = λ g h. cc; refusal = λ g h. cc; crowds = λ h. s.crowded k e }
 
   module _ (f : Option ℕ) (e : o ≡ Ok f) (t : is_some f ≡ false) (b : ℕ) (lt : b < length heads) (bucket : b ≡ hash_of by (length heads) key args) (w : ℕ) (word_is : w ≡ word_of symbol (length args) target from (get_or heads b 0)) where
     parts : Apart w symbol (length args) target from (get_or heads b 0)

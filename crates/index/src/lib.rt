@@ -68,27 +68,6 @@ pub fn two(a: u16, b: u16) -> u64
     u64::from(a) + u64::from(b) * 65536
 }
 
-// One number more in a hash.
-fn mixed(by: u64, h: u64, x: u64) -> u64
-    requires { Multiplier by × (h < 4294967296) × (x < 1103806595072) }
-    ensures { (result ≡ mix by h x) × (result < 4294967296) }
-{
-    (h * by + x) % 4294967296
-}
-
-// The last arguments, at most three, in a hash.
-fn mix_rest(by: u64, start: u64, args: &[u16]) -> u64
-    requires { Multiplier by × (start < 4294967296) × (length args.now ≤ 3) }
-    ensures { (result ≡ mix_all by start (fours args.now)) × (result < 4294967296) }
-{
-    match args {
-        [a, b, c, ..] => mixed(by, mixed(by, start, two(*a, *b)), u64::from(*c)),
-        [a, b] => mixed(by, start, two(*a, *b)),
-        [a] => mixed(by, start, u64::from(*a)),
-        [] => start,
-    }
-}
-
 // What rows are compared by: the symbol and the count of arguments, as they stand in a word, and the arguments.
 #[derive(Clone, Copy, Debug)]
 struct Key<'a> {
@@ -110,27 +89,57 @@ impl<'a> Key<'a> {
         }
     }
 
-    // The bucket of such rows, of `size`.
-    fn bucket(&self, by: u64, size: usize) -> usize
-        requires { Multiplier by × Sized size }
-        ensures { (result ≡ hash_of by size self.now.front self.now.args.now) × (result < size) }
-    {
-        let mut h = self.front;
-        let mut left = self.args;
-        while let [a, b, c, d, rest @ ..] = left {
-            h = mixed(by, h, two(*a, *b) + two(*c, *d) * 256);
-            left = rest;
-        }
-        let x = mix_rest(by, h, left) * by % 4294967296;
-        (x * size as u64 / 4294967296) as usize
-    }
-
     // Whether the row of a word is such a row.
     fn row_is(&self, pool: &[u16], w: u64) -> bool
         requires { Inside pool.now w }
         ensures { result ≡ row_is (row_in pool.now w) (self.now.front % 256) self.now.args.now }
     {
         w % 65536 == self.front && same(rows::args_in(pool, w), self.args)
+    }
+}
+
+// The hash of a key by a multiplier.
+#[derive(Clone, Copy, Debug)]
+struct Hash {
+    by: u64,
+    ghost multiplier: { Multiplier by },
+}
+
+impl Hash {
+    // One number more in a hash.
+    fn mixed(self, h: u32, x: u64) -> u32
+        requires { x < 1103806595072 }
+        ensures { result ≡ mix self.by h x }
+    {
+        ((u64::from(h) * self.by + x) % 4294967296) as u32
+    }
+
+    // The last arguments, at most three, in a hash.
+    fn mix_rest(self, start: u32, args: &[u16]) -> u32
+        requires { length args.now ≤ 3 }
+        ensures { result ≡ mix_all self.by start (fours args.now) }
+    {
+        match args {
+            [a, b, c, ..] => self.mixed(self.mixed(start, two(*a, *b)), u64::from(*c)),
+            [a, b] => self.mixed(start, two(*a, *b)),
+            [a] => self.mixed(start, u64::from(*a)),
+            [] => start,
+        }
+    }
+
+    // The bucket of rows with this key, of `size`.
+    fn bucket(self, key: &Key, size: usize) -> usize
+        requires { Sized size }
+        ensures { (result ≡ hash_of self.by size key.now.front key.now.args.now) × (result < size) }
+    {
+        let mut h = key.front as u32;
+        let mut left = key.args;
+        while let [a, b, c, d, rest @ ..] = left {
+            h = self.mixed(h, two(*a, *b) + two(*c, *d) * 256);
+            left = rest;
+        }
+        let x = u64::from(self.mix_rest(h, left)) * self.by % 4294967296;
+        (x * size as u64 / 4294967296) as usize
     }
 }
 
@@ -186,7 +195,7 @@ impl<'a> RowIndex<'a> {
         }
         let Rows { pool, words } = self.rows;
         let key = Key::new(symbol, args);
-        let b = key.bucket(self.by, self.heads.len());
+        let b = Hash { by: self.by }.bucket(&key, self.heads.len());
         seek(pool, words, self.heads, words.len(), b, ANY_LENGTH, &key).unwrap()
     }
 }
@@ -216,7 +225,7 @@ pub fn enter_row(
         n row.now.symbol row.now.target row.now.from row.now.args.now result }
 {
     let key = Key::new(row.symbol, row.args);
-    let b = key.bucket(by, heads.len());
+    let b = Hash { by }.bucket(&key, heads.len());
     if seek(pool, words, heads, n, b, most, &key)?.is_some() {
         return Err(TakeError::Refused(Refusal::new(Kind::RepeatedRow, n)));
     }

@@ -20,10 +20,10 @@ use Rattle.chains.specs.First.{FirstAt}
 use Rattle.rows.specs.Words.{rows_in, held_table}
 use Rattle.rows.proofs.Words.{rows_long}
 use Rattle.counts.specs.Kept.{Is}
-use Rattle.counts.specs.Chain.{Chainable, ChainedRows}
-use Rattle.counts.specs.States.{held, ArgsPlaced, CountReady, CountedStates}
+use Rattle.counts.specs.Chain.{ChainedRows}
+use Rattle.counts.specs.States.{held, CountReady, CountedStates}
 use Rattle.counts.proofs.KeptCounts.{kept_within, kept_beyond}
-use Rattle.used.specs.Settled.{SettleReady, Settled}
+use Rattle.used.specs.Settled.{Settled}
 use Rattle.table.specs.Checked.{total_or11, StatesReady, StatesAnswer}
 
 -- ---- the total
@@ -41,13 +41,6 @@ total_told None n r i e = e ∙ total_over i
 -- ---- the rows chained, the states counted and held to the limits, the total
 
 module _ {states : ℕ} {pool words accepting first counts marks : List ℕ} {used : List Bool} {sums : List ℕ} (s : StatesReady states pool words accepting first counts marks used sums) where
-  pub chainable : Chainable pool words first
-  chainable = record {
-    rows_held = s.rows_held;
-    targets = λ r l. omega (arith, s.ordered.known r (rw (rows_long pool words) l), s.room.first_room);
-    unchained = s.unchained;
-  }
-
   module _ {words' first' : List ℕ} (x : ChainedRows pool words first words' first') where
     pub count_ready : CountReady states (rows_in pool words') first' counts marks sums
     count_ready = record {
@@ -72,21 +65,6 @@ module _ {states : ℕ} {pool words accepting first counts marks : List ℕ} {us
       sums_here : length words' ≤ length sums'
       sums_here = omega (arith, count_ready.room.sums_room, y.sums_long, rows_long pool words')
 
-      pub settle_ready : SettleReady states pool accepting words' first' counts' marks' used sums'
-      settle_ready = record {
-        ordered = count_ready.ordered;
-        listed = record { placed = s.listed };
-        room = record {
-          first_room = count_ready.room.first_room;
-          cs_room = omega (arith, s.room.cs_room, y.cs_long);
-          ms_room = omega (arith, s.room.marks_room, y.marks_long);
-          used_room = s.used_room;
-          sums_room = sums_here;
-        };
-        blank = s.unmarked;
-        kept = y.known;
-      }
-
       module _ {prepare : Bool} {counts'' sums'' : List ℕ} {f : Result (Unit {0}) Refusal} (z : Settled prepare states pool accepting words' counts' counts'' sums' sums'' f) where
         -- a faulty state: 9 or 10
         pub states_fault : (r : Refusal) → f ≡ Err r → StatesAnswer prepare states pool words accepting words' first' counts'' sums'' (Err r)
@@ -101,10 +79,6 @@ module _ {states : ℕ} {pool words accepting first counts marks : List ℕ} {us
             at = z.fault r h
 
         module _ (none : f ≡ Ok tt) where
-          -- the accepting states have counts
-          pub entries_placed : ArgsPlaced counts'' accepting
-          entries_placed = record { placed = λ k l. omega (arith, s.listed k l, s.room.cs_room, y.cs_long, z.cs_long) }
-
           listed_total : sum (map (held counts'') accepting) ≡ total T
           listed_total = ap sum (map_agree (held counts'') (count T) 0 accepting (z.listed none)) ∙ sym (total_is T)
 

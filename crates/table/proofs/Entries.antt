@@ -1,5 +1,5 @@
 -- Laws of the accepting list's check. Assumes nothing.
-use Rattle.std.specs.Prelude.{Ok, Err}
+use Rattle.std.specs.Prelude.{Err}
 use Prim.Native.Nat.{ℕ, ◌+◌, ◌<◌, ◌≤◌}
 use mathlib.Core.Path.{◌≡◌, refl, sym, ap, ◌∙◌}
 use mathlib.Core.Bool.{Bool, true, false, not, ◌||◌, or-false}
@@ -82,10 +82,3 @@ module _ {states : ℕ} {accepting : List ℕ} {seen : List Bool} {i : ℕ} (x :
         marks = λ q ql. mark_more q ql (eqb q a) refl;
         fine = below_more _ i x.fine fine_here;
       }
-
-pub seeing_ends : {states : ℕ} {accepting : List ℕ} {seen : List Bool} {i : ℕ} → Seeing states accepting seen i → length accepting ≤ i → EntriesChecked states accepting (Ok tt)
-seeing_ends {states} {accepting} {seen} {i} x ge = record {
-  passed = λ h j lt. x.fine j (omega arith);
-  stopped = λ f h. cc;
-  seventh = λ f h. cc;
-}

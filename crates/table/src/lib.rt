@@ -108,6 +108,8 @@ fn total_of(accepting: &[u16], counts: &[u64]) -> Answer
 
 // The rest of the check, from the states on, where the rows and the accepting list are without fault. Unless it is to prepare for numbering, used
 // states need not be found where no state is beyond a limit.
+// (`states` goes on beside the lists by state, which may have more places: count_states, settle and what they call are public, and promise what they do
+// of such lists too; lists cut to `states` would ask their callers to cut them.)
 fn check_states(
     prepare: bool,
     states: usize,

@@ -84,9 +84,6 @@ pub record Looking (ms : List ℕ) (from q : ℕ) : Type 0 where
   pub fine : (a : ℕ) → from ≤ a → a < q → mark_ground (held ms a) ≡ 0
 
 module _ (states : ℕ) (ms : List ℕ) (from : ℕ) where
-  pub looking_begins : Looking ms from from
-  looking_begins = record { after = omega arith; fine = λ a h l. absurd (omega arith) }
-
   module _ {q : ℕ} (x : Looking ms from q) where
     fine_there : (T : Table) → T.states ≡ states → Measures T ms → (n : ℕ) → n ≤ q → n ≤ states → FineFrom T from n
     fine_there T e m n le i a h l = ground_held T ms m a (omega arith) ∙ x.fine a h (omega arith)

@@ -1,6 +1,6 @@
 -- Counts and sums of unused states set to 0. Assumes nothing.
 use Rattle.std.specs.Prelude.{if◌then◌else◌}
-use Prim.Native.Nat.{ℕ, suc, ◌+◌, ◌-◌, ◌<◌, ◌≤◌}
+use Prim.Native.Nat.{ℕ, suc, ◌-◌, ◌<◌, ◌≤◌}
 use mathlib.Core.Path.{◌≡◌, refl, sym, ap, ◌∙◌}
 use mathlib.Core.Bool.{Bool, true, false}
 use mathlib.Core.List.{List}
@@ -11,7 +11,6 @@ use lib.Seq.{get_or-set_same, get_or-set_other}
 use lib.Dec.{eqb}
 use borrow.Author.Tests.{eqb-true, eqb-false}
 use Rattle.model.specs.Table.{Row}
-use Rattle.model.proofs.Choice.{if_yes, if_no}
 use Rattle.rows.specs.Words.{rows_in}
 use Rattle.rows.proofs.Words.{rows_long}
 use Rattle.counts.specs.Chain.{leads, TargetLink, Comes}
@@ -108,73 +107,8 @@ pub record Clearing (states : ℕ) (words : List ℕ) (used : List Bool) (cs₀ 
   pub sums : (k : ℕ) → k < length words → target_at words k < q → get_or ss k 0 ≡ (if is_set used (target_at words k) then get_or ss₀ k 0 else 0)
   pub later_sums : (k : ℕ) → k < length words → q ≤ target_at words k → get_or ss k 0 ≡ get_or ss₀ k 0
 
-pub clearing_begins : (states : ℕ) (words : List ℕ) (used : List Bool) (cs ss : List ℕ) → Clearing states words used cs cs ss ss 0
-clearing_begins states words used cs ss = record {
-  within = omega arith;
-  cs_long = refl;
-  sums_long = refl;
-  counts = λ a l. absurd (omega arith);
-  later = λ a l. refl;
-  sums = λ k i l. absurd (omega arith);
-  later_sums = λ k i l. refl;
-}
-
 module _ {states : ℕ} {words first : List ℕ} {used : List Bool} {cs₀ ss₀ : List ℕ} (g : ClearReady states words first used cs₀ ss₀) where
   module _ {cs ss : List ℕ} {q : ℕ} (x : Clearing states words used cs₀ cs ss₀ ss q) where
-    module _ (l : q < states) where
-      pub mark_here : q < length used
-      mark_here = omega (arith, g.used_room)
-
-      pub count_here : q < length cs
-      count_here = omega (arith, g.cs_room, x.cs_long)
-
-      pub rows_ready : RowsChained words first ss q
-      rows_ready = record { pool = g.pool; chained = g.chained; state = omega (arith, g.first_room); sums_room = omega (arith, g.sums_room, x.sums_long) }
-
-      -- a state without a mark
-      pub clearing_goes : (ss' : List ℕ) → is_set used q ≡ false → RowsCleared words q ss ss' → Clearing states words used cs₀ (set cs q 0) ss₀ ss' (q + 1)
-      clearing_goes ss' unset y = record {
-        within = omega arith;
-        cs_long = length-set cs q 0 ∙ x.cs_long;
-        sums_long = y.long ∙ x.sums_long;
-        counts = λ a i. count a i (dec_le q a);
-        later = λ a i. get_or-set_other cs q a 0 0 (λ e. omega arith) ∙ x.later a (omega arith);
-        sums = λ k i j. sum k i j (dec_le q (target_at words k));
-        later_sums = λ k i j. y.others k (λ e. omega arith) ∙ x.later_sums k i (omega arith);
-      }
-        where
-          count : (a : ℕ) → a < q + 1 → Dec (q ≤ a) → held (set cs q 0) a ≡ (if is_set used a then held cs₀ a else 0)
-          count a i (yes h) = let e : a ≡ q = omega arith in rw e (get_or-set_same cs q 0 0 count_here ∙ sym (if_no (is_set used q) (held cs₀ q) 0 unset))
-          count a i (no h) = get_or-set_other cs q a 0 0 (λ e. omega arith) ∙ x.counts a (omega arith)
-
-          sum : (k : ℕ) → k < length words → target_at words k < q + 1 → Dec (q ≤ target_at words k) → get_or ss' k 0 ≡ (if is_set used (target_at words k) then get_or ss₀ k 0 else 0)
-          sum k i j (yes h) =
-              let e : target_at words k ≡ q = omega arith in
-              y.own k i e ∙ sym (if_no (is_set used (target_at words k)) (get_or ss₀ k 0) 0 (ap (is_set used) e ∙ unset))
-          sum k i j (no h) = y.others k (λ e. omega arith) ∙ x.sums k i (omega arith)
-
-      -- a marked one
-      pub clearing_keeps : is_set used q ≡ true → Clearing states words used cs₀ cs ss₀ ss (q + 1)
-      clearing_keeps marked = record {
-        within = omega arith;
-        cs_long = x.cs_long;
-        sums_long = x.sums_long;
-        counts = λ a i. count a i (dec_le q a);
-        later = λ a i. x.later a (omega arith);
-        sums = λ k i j. sum k i j (dec_le q (target_at words k));
-        later_sums = λ k i j. x.later_sums k i (omega arith);
-      }
-        where
-          count : (a : ℕ) → a < q + 1 → Dec (q ≤ a) → held cs a ≡ (if is_set used a then held cs₀ a else 0)
-          count a i (yes h) = let e : a ≡ q = omega arith in rw e (x.later q (omega arith) ∙ sym (if_yes (is_set used q) (held cs₀ q) 0 marked))
-          count a i (no h) = x.counts a (omega arith)
-
-          sum : (k : ℕ) → k < length words → target_at words k < q + 1 → Dec (q ≤ target_at words k) → get_or ss k 0 ≡ (if is_set used (target_at words k) then get_or ss₀ k 0 else 0)
-          sum k i j (yes h) =
-              let e : target_at words k ≡ q = omega arith in
-              x.later_sums k i h ∙ sym (if_yes (is_set used (target_at words k)) (get_or ss₀ k 0) 0 (ap (is_set used) e ∙ marked))
-          sum k i j (no h) = x.sums k i (omega arith)
-
     pub clearing_ends : states ≤ q → Cleared states words used cs₀ cs ss₀ ss
     clearing_ends le = record {
       cs_long = x.cs_long;

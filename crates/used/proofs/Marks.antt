@@ -19,11 +19,11 @@ use borrow.Author.Tests.{eqb-true, eqb-false, lt-ltb, eq-eqb}
 use Rattle.model.specs.Choice.{any_below}
 use Rattle.model.specs.Count.{product}
 use Rattle.model.specs.Reach.{is_among}
-use Rattle.model.proofs.Choice.{or_left, any_true, any_some}
+use Rattle.model.proofs.Choice.{any_true, any_some}
 use Rattle.model.proofs.Counting.{factors_some}
 use Rattle.model.proofs.Used.{among_place, place_among}
 use Rattle.counts.specs.States.{held}
-use Rattle.used.specs.Marked.{is_set, Placed, NoneEmpty, MarkedToo, row_names, AllMarked, PassedBy}
+use Rattle.used.specs.Marked.{is_set, Placed, NoneEmpty, MarkedToo, AllMarked, PassedBy}
 
 -- ---- tests
 
@@ -154,20 +154,7 @@ module _ (accepting cs : List ℕ) where
         → MarkedToo (picked accepting (some cs) (i + 1)) old (set used a true)
     listed_go e l z m = picks_go accepting (some cs) old used i a e m (lt-ltb 0 (get_or cs a 0) (pos_of_ne-zero z)) l
 
--- ---- a row that counts 0 changes nothing
-
-pub row_no_lem : (cs args : List ℕ) (old : List Bool) (b : Bool) → b ≡ false → b ≡ ltb 0 (product (map (held cs) args)) → MarkedToo (row_names cs args) old old
-row_no_lem cs args old b t e =
-    record { long = refl; each = λ q. or_none (is_set old q) ∙ ap (λ (x : Bool). is_set old q || x) (and_no (is_among q args) ∙ ap (λ (x : Bool). is_among q args && x) (sym t ∙ e)) }
-  where
-    and_no : (x : Bool) → false ≡ (x && false)
-    and_no true = refl
-    and_no false = refl
-
 -- ---- the state that is next to mark
-
-pub all_marked_none : (cs : List ℕ) (used : List Bool) → AllMarked cs used 0
-all_marked_none cs used = record { marked = λ a l p. absurd (omega arith) }
 
 -- the states from `low` on and before the next one are passed, all up to m where there is none
 module _ (cs : List ℕ) (used : List Bool) (low m : ℕ) (g : PassedBy cs used low m) where
@@ -185,10 +172,6 @@ module _ (cs : List ℕ) (used : List Bool) (low m : ℕ) (g : PassedBy cs used 
       → MatchOption r ((k : ℕ) → low ≤ k → k < m → Passes k) (λ i. (low ≤ i) × (i < m) × Unit {0} × ((k : ℕ) → low ≤ k → k < i → Passes k)) → AllMarked cs used n × (n ≤ m)
   passed_by None n e h = rw e (up_to m h, omega arith)
   passed_by (Some i) n e h = rw e (up_to i h.3, omega arith)
-
--- marks only grow
-pub marked_stays : (cs : List ℕ) (old used : List Bool) (n : ℕ) (p : ℕ → Bool) → MarkedToo p old used → AllMarked cs old n → AllMarked cs used n
-marked_stays cs old used n p m s = record { marked = λ a l h. m.each a ∙ or_left (is_set old a) (p a) (s.marked a l h) }
 
 -- a row whose arguments have trees counts more than 0
 pub row_some : (full : Bool) (cs args : List ℕ) → NoneEmpty full cs → Placed (length cs) args → full ≡ true → true ≡ ltb 0 (product (map (held cs) args))

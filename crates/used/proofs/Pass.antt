@@ -24,8 +24,8 @@ use Rattle.model.proofs.UsedKept.{used_alike}
 use Rattle.rows.specs.Words.{rows_in, row_no, held_table}
 use Rattle.counts.specs.Chain.{target, InOrder}
 use Rattle.counts.specs.States.{held}
-use Rattle.used.specs.Marked.{is_set, RowPlaced, MarkedToo, row_names, listed_by, named_row, named_for, AllMarked, PassedBy, TurnReady, Turned, PassReady, FoundUsed}
-use Rattle.used.proofs.Marks.{same_test, or_none, all_marked_none}
+use Rattle.used.specs.Marked.{is_set, MarkedToo, row_names, listed_by, named_row, named_for, AllMarked, TurnReady, Turned, PassReady, FoundUsed}
+use Rattle.used.proofs.Marks.{same_test, or_none}
 use Rattle.used.proofs.Turn.{factor_some}
 
 -- ---- any table
@@ -125,15 +125,6 @@ module _ {states : ℕ} {pool accepting words first cs : List ℕ} {used₀ : Li
   abbrev rows : List Row
   rows = rows_in pool words
 
-  pub listed_ready : RowPlaced accepting cs used₀
-  listed_ready = record {
-    counted = record { placed = λ k l. omega (arith, g.listed.placed k l, g.cs_room) };
-    marked = record { placed = λ k l. omega (arith, g.listed.placed k l, g.used_room) };
-  }
-
-  pub look_begins : (used : List Bool) → MarkedToo (listed_by accepting cs) used₀ used → PassedBy cs used 0 states
-  look_begins used m = record { passed = all_marked_none cs used; low = omega arith; counted = g.cs_room; room = omega (arith, g.used_room, m.long) }
-
   pub passing_begins : (used : List Bool) (n : ℕ) → MarkedToo (listed_by accepting cs) used₀ used → AllMarked cs used n × (n ≤ states) → Passing states pool accepting words cs used used states n
   passing_begins used n m s = record {
     low = omega arith;
@@ -147,9 +138,6 @@ module _ {states : ℕ} {pool accepting words first cs : List ℕ} {used₀ : Li
   }
 
   module _ {begun used : List Bool} {m n : ℕ} (b : MarkedToo (listed_by accepting cs) used₀ begun) (x : Passing states pool accepting words cs begun used m n) where
-    pub mark_here : n < m → m - 1 < length used
-    mark_here l = omega (arith, x.low, x.long, b.long, g.used_room)
-
     pub turn_ready : n < m → TurnReady rows first cs used n (m - 1)
     turn_ready l = record {
       lower = λ r i e. record { placed = λ k j. omega (arith, g.ordered.lower r i k j, e) };

@@ -31,7 +31,7 @@ use Rattle.counts.specs.Prepared.{used_sum, used as used_left, whole}
 use Rattle.counts.proofs.Prepared.{earlier_le}
 use Rattle.counts.proofs.All.{count_same, longest_same, earlier_same}
 use Rattle.used.specs.Marked.{is_set, PassReady, FoundUsed}
-use Rattle.used.specs.Limits.{Measures, BeyondFrom, FaultReady, FaultFound, FirstUsed}
+use Rattle.used.specs.Limits.{Measures, BeyondFrom, FaultFound, FirstUsed}
 use Rattle.used.specs.Settled.{ClearReady, Cleared, SettleReady, Settled}
 use Rattle.used.proofs.Walk.{target_word}
 use Rattle.used.proofs.Beyond.{ground_fine}
@@ -114,9 +114,6 @@ module _ {states : ℕ} {pool accepting words first cs ms : List ℕ} {used₀ :
   -- ---- the used states are found
 
   module _ {used : List Bool} (u : FoundUsed states pool accepting words used₀ used) where
-    pub fault_ready : FaultReady states ms used
-    fault_ready = record { room = g.room.ms_room; used_room = omega (arith, g.room.used_room, u.long) }
-
     pub clear_ready : Chained (rows_in pool words) first (afters words) → ClearReady states words first used cs ss
     clear_ready ch = record {
       pool = pool;
@@ -218,8 +215,3 @@ module _ {states : ℕ} {pool accepting words first cs ms : List ℕ} {used₀ :
           left = λ e. used_left (record { counted = counts; summed = sums });
           prepared = λ y e. record { counted = counts; summed = sums };
         }
-
--- what is prepared is there also where it was not asked for
-pub settled_any : {states : ℕ} {pool accepting words cs₀ cs ss₀ ss : List ℕ} {r : Result (Unit {0}) Refusal} (prepare : Bool)
-    → Settled true states pool accepting words cs₀ cs ss₀ ss r → Settled prepare states pool accepting words cs₀ cs ss₀ ss r
-settled_any prepare x = record { cs_long = x.cs_long; sums_long = x.sums_long; fault = x.fault; fine = x.fine; listed = x.listed; left = x.left; prepared = λ y e. x.prepared refl e }

@@ -19,8 +19,8 @@ use Rattle.rows.specs.Words.{args_in, rows_in, row_no, afters}
 use Rattle.counts.specs.Chain.{target, leads, TargetLink, Chained, Comes}
 use Rattle.counts.specs.States.{held}
 use Rattle.counts.proofs.Chain.{leads_row, leads_end}
-use Rattle.used.specs.Marked.{is_set, Placed, RowPlaced, MarkedToo, row_names, listed_by, named_row, named_for, AllMarked, PassedBy, TurnReady, Turned}
-use Rattle.used.proofs.Marks.{same_test, or_none, or_assoc, marked_stays}
+use Rattle.used.specs.Marked.{is_set, Placed, RowPlaced, MarkedToo, row_names, listed_by, named_row, named_for, AllMarked, TurnReady, Turned}
+use Rattle.used.proofs.Marks.{same_test, or_none, or_assoc}
 use Rattle.used.proofs.Walk.{AtRow, at_link, leads_within, row_here, mine_here, args_here, link_next}
 
 -- ---- rows between that are of other targets
@@ -188,13 +188,5 @@ module _ (pool words : List ℕ) {first cs : List ℕ} {old : List Bool} {low q 
         }
 
         module _ (used' : List Bool) (m : MarkedToo (row_names cs args) used used') where
-          pub look_ready : PassedBy cs used' n q
-          look_ready = record {
-            passed = marked_stays cs used used' n (row_names cs args) m x.passed;
-            low = x.low;
-            counted = g.passed.counted;
-            room = omega (arith, g.passed.room, m.long, x.marked.long);
-          }
-
           pub turn_goes : (n' : ℕ) → AllMarked cs used' n' × (n' ≤ q) → Taking rows cs q old used' n' p'
           turn_goes n' s = taking_goes rows cs q old used used' n n' p r p' x g'.here (rw same at m) s.0 s.1 (link_next pool words chained x.at_row g')
