@@ -6,6 +6,7 @@ use Rattle.model.specs.Number.{number_outcome}
 use Rattle.model.specs.Write.{write_outcome, write_list}
 use Rattle.std.specs.Prelude.{Result}
 use Rattle.model.specs.declared.Refusal.{Refusal}
+use Rattle.operations.specs.declared.Table.{Table}
 use Rattle.operations.specs.declared.Task.{Task}
 use Rattle.operations.specs.declared.Task.TheVariants.{Check, Number, Write}
 
@@ -31,6 +32,9 @@ task_prepares (Write number) = false
 pub record Answered (task : Task) (states : ℕ) (rows accepting old new : List ℕ) (r : Result ℕ Refusal) : Type 0 where
   pub answer : outcome r ≡ task_outcome task states rows accepting (length old)
   pub list : new ≡ task_list task states rows accepting old
+
+abbrev pub AnsweredFor : Task → Table → (old new : List ℕ) → Result ℕ Refusal → Type 0
+AnsweredFor task t = Answered task t.states t.rows.now t.accepting.now
 
 -- writing the tree of a number: the answer, and what the lent list then holds
 pub record WroteTree (states : ℕ) (rows accepting : List ℕ) (number : ℕ) (old new : List ℕ) (r : Result ℕ Refusal) : Type 0 where

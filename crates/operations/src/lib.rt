@@ -6,7 +6,7 @@ ghost use Rattle.model.specs.Answers.{outcome};
 ghost use Rattle.model.specs.Check.{check_outcome};
 ghost use Rattle.model.specs.Number.{number_outcome};
 ghost use Rattle.rows.specs.Walk.{Room};
-ghost use Rattle.operations.specs.Answered.{task_prepares, Answered, WroteTree};
+ghost use Rattle.operations.specs.Answered.{task_prepares, AnsweredFor, WroteTree};
 
 use model::Answer;
 use rank::Numbering;
@@ -16,11 +16,19 @@ use unrank::TreeWriter;
 // What is asked of a table: its total, the number of a tree, or the tree of a number.
 // (An enum, and no closure for what follows the check: the arrays are set up here, so each closure would take seven lists and state of each what the
 // check leaves in it.)
-#[derive(Clone, Copy)]
+#[derive(Clone, Copy, PartialEq, Eq, Debug)]
 enum Task<'a> {
     Check,
     Number(&'a [u16]),
     Write(u64),
+}
+
+// A table as it is lent: its number of states, its rows and its accepting list.
+#[derive(Clone, Copy, PartialEq, Eq, Debug)]
+struct Table<'a> {
+    states: u64,
+    rows: &'a [u16],
+    accepting: &'a [u16],
 }
 
 // Whether a task needs to know which states are used.
@@ -33,17 +41,20 @@ fn prepares(task: Task<'_>) -> bool
 // Answers with room for so many rows and states, and so many buckets.
 fn answer_in<'a, const ROWS: usize, const STATES: usize, const HEADS: usize>(
     task: Task<'_>,
-    states: u64,
-    rows: &'a [u16],
-    accepting: &'a [u16],
+    table: Table<'a>,
     out: &mut [u16],
 ) -> Answer
-    requires rows_room { Room ROWS (length rows.now) }
-    requires states_room { states ≤ 256 → states ≤ STATES }
+    requires rows_room { Room ROWS (length table.rows.now) }
+    requires states_room { table.states ≤ 256 → table.states ≤ STATES }
     requires sized { (0 < HEADS) × (HEADS ≤ 65536) }
     requires few { (ROWS ≤ 1024) × (STATES ≤ 256) }
-    ensures { Answered task.entry states rows.now accepting.now out.old out.new result }
+    ensures { AnsweredFor task.entry table.entry out.old out.new result }
 {
+    let Table {
+        states,
+        rows,
+        accepting,
+    } = table;
     // arrays beside one another, and not of structs: what is said of words, counts and sums is said of lists of numbers, and each step of the check
     // borrows those that it writes
     let mut words = [0u64; ROWS];
@@ -93,36 +104,50 @@ fn answer_in<'a, const ROWS: usize, const STATES: usize, const HEADS: usize>(
 // Answers with as much room as the table needs: a row has at least three entries, and a table with more than 1,024 rows or 256 states is refused.
 // (`out` is empty where a task writes no tree. It was tried as a part of `Task::Write`: no fact tells what an enum that is dropped at a `?`, or passed on
 // whole, leaves behind the `&mut` in it.)
-fn answer(task: Task<'_>, states: u64, rows: &[u16], accepting: &[u16], out: &mut [u16]) -> Answer
-    ensures { Answered task.entry states rows.now accepting.now out.old out.new result }
+fn answer(task: Task<'_>, table: Table<'_>, out: &mut [u16]) -> Answer
+    ensures { AnsweredFor task.entry table.entry out.old out.new result }
 {
-    if 1152 < rows.len() {
-        return answer_in::<1024, 256, 1408>(task, states, rows, accepting, out);
+    if 1152 < table.rows.len() {
+        return answer_in::<1024, 256, 1408>(task, table, out);
     }
-    if states <= 64 && rows.len() <= 288 {
-        return answer_in::<96, 64, 132>(task, states, rows, accepting, out);
+    if table.states <= 64 && table.rows.len() <= 288 {
+        return answer_in::<96, 64, 132>(task, table, out);
     }
-    answer_in::<384, 256, 528>(task, states, rows, accepting, out)
+    answer_in::<384, 256, 528>(task, table, out)
 }
 
 // Checks a table and gives its total.
-// (A table is three parameters in this file, no struct: the C interface and docs/SPEC-MAP.md name these functions and their lists so.)
 pub fn check(states: u64, rows: &[u16], accepting: &[u16]) -> Answer
     ensures { outcome result ≡ check_outcome states rows.now accepting.now }
 {
-    answer(Task::Check, states, rows, accepting, &mut [])
+    let table = Table {
+        states,
+        rows,
+        accepting,
+    };
+    answer(Task::Check, table, &mut [])
 }
 
 // Numbers a tree of a table.
 pub fn number(states: u64, rows: &[u16], accepting: &[u16], tree: &[u16]) -> Answer
     ensures { outcome result ≡ number_outcome states rows.now accepting.now tree.now }
 {
-    answer(Task::Number(tree), states, rows, accepting, &mut [])
+    let table = Table {
+        states,
+        rows,
+        accepting,
+    };
+    answer(Task::Number(tree), table, &mut [])
 }
 
 // Writes the tree of a number.
 pub fn write(states: u64, rows: &[u16], accepting: &[u16], number: u64, tree: &mut [u16]) -> Answer
     ensures { WroteTree states rows.now accepting.now number tree.old tree.new result }
 {
-    answer(Task::Write(number), states, rows, accepting, tree)
+    let table = Table {
+        states,
+        rows,
+        accepting,
+    };
+    answer(Task::Write(number), table, tree)
 }

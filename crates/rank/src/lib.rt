@@ -24,8 +24,9 @@ struct OpenNode {
 }
 
 // The open nodes of a tree, and the states of closed ones that wait for their parent's bar, each with its value: the first `depth` of `opens`, and the
-// first `waits` of the others. (Two lists wait: the index takes a slice of states, `fold` one of values. The lists are lent: a stack that owned its
-// arrays was tried, and kept its counts in memory: numbering took up to 1.08 times as long. Read through `&self`, a `&mut [OpenNode; 2048]` has no proof yet.)
+// first `waits` of the others. (Two lists wait, as the index takes a slice of states. The arrays that document 01 names are lent: a stack that owned them
+// was tried, kept its counts in memory, and numbering took up to 1.08 times as long, where bench/README.md's bar is 1.05. They are lent as slices: of what
+// `&self` reads in a `&mut [OpenNode; 2048]`, tried too, no proof was found.)
 #[derive(Drop)]
 struct Stack<'a> {
     opens: &'a mut [OpenNode],
@@ -134,8 +135,8 @@ impl<'a> Numbering<'a> {
         }
     }
 
-    // The value of a closed node's tree in its state q, by its row k. An unused state counts 0, and no value is formed in it: 0 stands there, which nothing reads as one.
-    // (No `Option`: the stack's 2,048 values would take twice their 16 KB of fixed memory.)
+    // The value of a closed node's tree in its state q, by its row k. An unused state counts 0, and no value is formed in it: 0 stands there, which
+    // nothing reads as one. (No `Option`: document 01 names arrays [0; 2048] for the values, and of `Option<u64>` theirs would take 32 KB for 16.)
     fn value_in(&self, node: Closing<'_>, k: usize, q: u16) -> u64
         requires { Formable self.now.counts.now self.now.sums.now node.states.now node.values.now k q }
         ensures { result ≡ formed self.now.counts.now self.now.sums.now node.entry.states.now node.entry.values.now k q }
