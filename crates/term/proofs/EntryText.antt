@@ -7,11 +7,10 @@ use mathlib.Core.List.{List, [], ◌∷◌, ◌++◌}
 use mathlib.Core.Logic.{◌⊎◌, inl, inr}
 use native.Mathlib.Omega.{arith}
 use native.Mathlib.Nat.{pos_of_ne-zero}
-use lib.ListN.{length, get_or, drop, set, length-append, drop_of_length-le}
+use lib.ListN.{length, get_or, drop, set, length-append}
 use lib.Dec.{eqb}
 use borrow.Author.Tests.{eq-eqb, ne_eqb, eqb-true, eqb-false}
 use Rattle.model.specs.Names.{name_of, line_at}
-use Rattle.model.proofs.Lists.{drop_next}
 use Rattle.names.specs.NamesIndex.{Lined}
 use Rattle.names.proofs.Lines as lines
 use Rattle.term.specs.Emit.{entry_text, entries_text, closing, mark_after}

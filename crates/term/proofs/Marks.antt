@@ -1,5 +1,5 @@
 -- The marks after a name: brackets and commas. Assumes nothing.
-use Rattle.std.specs.Prelude.{if◌then◌else◌, Result, Ok, Err}
+use Rattle.std.specs.Prelude.{if◌then◌else◌, Result, Ok, Err, Option, Some, None}
 use Prim.Native.Nat.{ℕ, zero, suc, ◌+◌, ◌-◌, ◌<◌, ◌≤◌}
 use mathlib.Core.Path.{◌≡◌, refl, sym, ap, ◌∙◌}
 use mathlib.Core.Bool.{Bool, true, false, not, cond}
@@ -20,7 +20,7 @@ use Rattle.term.specs.Emit.{node_entries, emitted}
 use Rattle.term.proofs.Runs.{other_entries}
 use Rattle.term.specs.Pass.{Closing, Barred, Onward, Follows}
 use Rattle.term.specs.declared.After.{After}
-use Rattle.term.specs.declared.After.TheVariants.{Name, Ends}
+use Rattle.term.specs.declared.Due.{Due}
 use Rattle.model.specs.Answers.{refused, refused_by}
 use Rattle.model.specs.declared.Refusal.{Refusal}
 
@@ -127,41 +127,51 @@ closing_is text at depth c l e =
 
 -- ---- what follows a name
 
+-- another name, and the text's end
+abbrev named : (i d b : ℕ) → After
+named i d b = record { bars = b; due = Some (record { place = i; depth = d }) }
+
+abbrev ended_by : ℕ → After
+ended_by b = record { bars = b; due = None }
+
 -- an answer by its case
 abbrev Found : Type 0
 Found = Result After Refusal
 
-follows_name : {text : List ℕ} {end depth i d b : ℕ} → Onward text end depth i d b → Follows text end depth (Ok (Name i d b))
-follows_name {text} {end} {depth} {i} {d} {b} x = record { name = λ i' d' b' e. same i' d' b' e; ends = λ b' e. never e; breaks = λ p e. other e }
-  where
-    same : (i' d' b' : ℕ) → (let r : Found = Ok (Name i d b) in r ≡ Ok (Name i' d' b')) → Onward text end depth i' d' b'
-    same i' d' b' e =
-        let f : i ≡ i' = cc in
-        let g : d ≡ d' = cc in
-        let h : b ≡ b' = cc in
-        rw (sym f, sym g, sym h) x
+module _ {a : After} where
+  -- an answer is one thing
+  same_after : {a' : After} → (let r : Found = Ok a in r ≡ Ok a') → a ≡ a'
+  same_after e = cc
 
-    never : {A : Type 0} {b' : ℕ} → (let r : Found = Ok (Name i d b) in r ≡ Ok (Ends b')) → A
-    never e = let z : ◌≡◌ {A = ℕ} 0 1 = cc in absurd (omega arith)
+  no_refusal : {A : Type 0} {p : Refusal} → (let r : Found = Ok a in r ≡ Err p) → A
+  no_refusal e = let z : ◌≡◌ {A = ℕ} 0 1 = cc in absurd (omega arith)
 
-    other : {A : Type 0} {p : Refusal} → (let r : Found = Ok (Name i d b) in r ≡ Err p) → A
-    other e = let z : ◌≡◌ {A = ℕ} 0 1 = cc in absurd (omega arith)
+due_same : {u v : Due} → (let r : Option Due = Some u in r ≡ Some v) → u ≡ v
+due_same e = cc
 
-follows_end : {text : List ℕ} {end depth b : ℕ} → Barred text end (length text) b → ((m : ℕ) → scan (in_name depth m) end (drop end text) ≡ passes) → Follows text end depth (Ok (Ends b))
-follows_end {text} {end} {depth} {b} x y = record { name = λ i d b' e. never e; ends = λ b' e. same b' e; breaks = λ p e. other e }
-  where
-    same : (b' : ℕ) → (let r : Found = Ok (Ends b) in r ≡ Ok (Ends b')) → Barred text end (length text) b' × ((m : ℕ) → scan (in_name depth m) end (drop end text) ≡ passes)
-    same b' e = let h : b ≡ b' = cc in (rw (sym h) x, y)
+due_never : {A : Type 0} {u : Due} → (let r : Option Due = Some u in r ≡ None) → A
+due_never e = let z : ◌≡◌ {A = ℕ} 0 1 = cc in absurd (omega arith)
 
-    never : {A : Type 0} {i d b' : ℕ} → (let r : Found = Ok (Ends b) in r ≡ Ok (Name i d b')) → A
-    never e = let z : ◌≡◌ {A = ℕ} 0 1 = cc in absurd (omega arith)
+follows_name : {text : List ℕ} {end depth i d b : ℕ} → Onward text end depth i d b → Follows text end depth (Ok (named i d b))
+follows_name {text} {end} {depth} {i} {d} {b} x = record {
+  name = λ a u e f.
+      let h = same_after e in
+      let k = due_same (ap (λ (y : After). y.due) h ∙ f) in
+      rw (sym (ap (λ (y : After). y.bars) h), sym (ap (λ (y : Due). y.place) k), sym (ap (λ (y : Due). y.depth) k)) x;
+  ends = λ a e f. due_never (ap (λ (y : After). y.due) (same_after e) ∙ f);
+  breaks = λ p e. no_refusal e;
+}
 
-    other : {A : Type 0} {p : Refusal} → (let r : Found = Ok (Ends b) in r ≡ Err p) → A
-    other e = let z : ◌≡◌ {A = ℕ} 0 1 = cc in absurd (omega arith)
+follows_end : {text : List ℕ} {end depth b : ℕ} → Barred text end (length text) b → ((m : ℕ) → scan (in_name depth m) end (drop end text) ≡ passes) → Follows text end depth (Ok (ended_by b))
+follows_end {text} {end} {depth} {b} x y = record {
+  name = λ a u e f. due_never (sym f ∙ sym (ap (λ (z : After). z.due) (same_after e)));
+  ends = λ a e f. (rw (sym (ap (λ (z : After). z.bars) (same_after e))) x, y);
+  breaks = λ p e. no_refusal e;
+}
 
 follows_break : {text : List ℕ} {end depth p : ℕ} {e : Refusal} → refused_by e ≡ refused 19 p → ((m : ℕ) → scan (in_name depth m) end (drop end text) ≡ breaks_at p)
     → Follows text end depth (Err e)
-follows_break {text} {end} {depth} {p} {e} x y = record { name = λ i d b h. never h; ends = λ b h. never h; breaks = λ q h. rw (sym (same q h)) (record { place = p; refuses = x; scans = y }) }
+follows_break {text} {end} {depth} {p} {e} x y = record { name = λ a u h f. never h; ends = λ a h f. never h; breaks = λ q h. rw (sym (same q h)) (record { place = p; refuses = x; scans = y }) }
   where
     same : (q : Refusal) → (let r : Found = Err e in r ≡ Err q) → e ≡ q
     same q h = cc
@@ -193,7 +203,7 @@ module _ (text : List ℕ) (end depth : ℕ) (nb : is_name_byte (get_or text end
         (other_entries names text end open_inside nb
         ∙ ap (λ (b : Bool). (if b then 0 ∷ [] else []) ++ emitted names false (drop (end + 1) text)) (ne_eqb (get_or text end 0) 41 (λ h. let z = is_open in omega arith)))
 
-    pub opened_on : Follows text end depth (Ok (Name (end + 1) (depth + 1) 0))
+    pub opened_on : Follows text end depth (Ok (named (end + 1) (depth + 1) 0))
     opened_on =
         let l = open_inside in
         follows_name (record {
@@ -227,7 +237,7 @@ module _ (text : List ℕ) (end depth : ℕ) (nb : is_name_byte (get_or text end
 
     -- the text ends
     module _ (z : end + c ≡ length text) where
-      pub shut_ends : depth ≡ c → Follows text end depth (Ok (Ends (c + 1)))
+      pub shut_ends : depth ≡ c → Follows text end depth (Ok (ended_by (c + 1)))
       shut_ends d = follows_end
           (record {
             within = omega arith;
@@ -256,7 +266,7 @@ module _ (text : List ℕ) (end depth : ℕ) (nb : is_name_byte (get_or text end
           go true h = shut_over (eqb-true depth c h) t
           go false h = let d = eqb-false depth c h in let f = x.few in shut_other d (λ g. d (let m = k g in omega arith)) t
 
-      pub shut_comma : (depth ≡ c → ⊥) → get_or text (end + c) 0 ≡ 44 → Follows text end depth (Ok (Name (end + c + 1) (depth - c) (c + 1)))
+      pub shut_comma : (depth ≡ c → ⊥) → get_or text (end + c) 0 ≡ 44 → Follows text end depth (Ok (named (end + c + 1) (depth - c) (c + 1)))
       shut_comma d k =
           let f = x.few in
           let p : 0 < depth - c = pos d f in

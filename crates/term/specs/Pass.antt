@@ -1,5 +1,5 @@
 -- What the parts of reading a term in one pass promise. Assumes nothing: these are definitions.
-use Rattle.std.specs.Prelude.{ℕ, ◌+◌, ◌<◌, ◌≤◌, ◌≡◌, false, not, List, ◌∷◌, ◌++◌, length, get_or, drop, replicate, eqb, if◌then◌else◌, Result, Ok, Err}
+use Rattle.std.specs.Prelude.{ℕ, ◌+◌, ◌<◌, ◌≤◌, ◌≡◌, false, not, List, ◌∷◌, ◌++◌, length, get_or, drop, replicate, eqb, if◌then◌else◌, Result, Ok, Err, Some, None}
 use Rattle.model.specs.Answers.{Outcome, refused, refused_by}
 use Rattle.model.specs.declared.Refusal.{Refusal}
 use Rattle.model.specs.Choice.{first_faulty}
@@ -8,7 +8,7 @@ use Rattle.model.specs.Term.{Scan, passes, breaks_at, due, in_name, scan, term_t
 use Rattle.model.specs.TermOperations.{entries_of, name_ground}
 use Rattle.term.specs.Emit.{node_entries, emitted}
 use Rattle.term.specs.declared.After.{After}
-use Rattle.term.specs.declared.After.TheVariants.{Name, Ends}
+use Rattle.term.specs.declared.Due.{Due}
 
 -- c bytes `)` stand at a place, no more than brackets are open, and one more could not be counted
 pub record Closing (text : List ℕ) (at depth c : ℕ) : Type 0 where
@@ -41,8 +41,8 @@ pub record Breaks (text : List ℕ) (end depth : ℕ) (e : Refusal) : Type 0 whe
 
 -- what follows a name that ends at `end`, so many brackets being open
 pub record Follows (text : List ℕ) (end depth : ℕ) (r : Result After Refusal) : Type 0 where
-  pub name : (i d bars : ℕ) → r ≡ Ok (Name i d bars) → Onward text end depth i d bars
-  pub ends : (bars : ℕ) → r ≡ Ok (Ends bars) → Barred text end (length text) bars × ((m : ℕ) → scan (in_name depth m) end (drop end text) ≡ passes)
+  pub name : (a : After) (u : Due) → r ≡ Ok a → a.due ≡ Some u → Onward text end depth u.place u.depth a.bars
+  pub ends : (a : After) → r ≡ Ok a → a.due ≡ None → Barred text end (length text) a.bars × ((m : ℕ) → scan (in_name depth m) end (drop end text) ≡ passes)
   pub breaks : (e : Refusal) → r ≡ Err e → Breaks text end depth e
 
 -- 19 comes before 20

@@ -18,19 +18,18 @@ use scan::scan_text;
 use tree::check_tree;
 use words::{put_word, word_at};
 
-// What follows a name.
-#[derive(Clone, Copy)]
-pub enum After {
-    // another name is due at a place, with so many brackets open, after so many bars
-    Name {
-        place: usize,
-        open: usize,
-        bars: usize,
-    },
-    // the text ends, after so many bars
-    Ends {
-        bars: usize,
-    },
+// A name that is due: its place, and how many brackets are open.
+#[derive(Clone, Copy, PartialEq, Eq, Debug)]
+pub struct Due {
+    place: usize,
+    depth: usize,
+}
+
+// What follows a name: so many bars, and then another name, or the text's end.
+#[derive(Clone, Copy, PartialEq, Eq, Debug)]
+pub struct After {
+    bars: usize,
+    due: Option<Due>,
 }
 
 // How many `)` stand at a place, no more than brackets are open.
@@ -51,23 +50,23 @@ fn after_name(text: &[u8], end: usize, depth: usize) -> Result<After, Refusal>
     ensures { Follows text.now end depth result }
 {
     if text.get(end) == Some(&b'(') {
-        return Ok(After::Name {
+        let due = Some(Due {
             place: end + 1,
-            open: depth + 1,
-            bars: 0,
+            depth: depth + 1,
         });
+        return Ok(After { bars: 0, due });
     }
     let c = closes(text, end, depth);
     let i = end + c;
-    match text.get(i) {
-        None if c == depth => Ok(After::Ends { bars: c + 1 }),
-        Some(b',') if c < depth => Ok(After::Name {
+    let due = match text.get(i) {
+        None if c == depth => None,
+        Some(b',') if c < depth => Some(Due {
             place: i + 1,
-            open: depth - c,
-            bars: c + 1,
+            depth: depth - c,
         }),
-        _ => Err(Refusal::new(Kind::NotATerm, i)),
-    }
+        _ => return Err(Refusal::new(Kind::NotATerm, i)),
+    };
+    Ok(After { bars: c + 1, due })
 }
 
 // The entries of a tree, as many as there is room for, and how many it has. The bars are there: the room begins cleared.
@@ -132,17 +131,13 @@ fn read_text(list: &NamesList, text: &[u8], entries: &mut Entries) -> Result<(),
             return Err(Refusal::new(Kind::UnlistedName, i));
         };
         entries.push((k + 1) as u8);
-        match after_name(text, end, depth)? {
-            After::Ends { bars } => {
-                entries.count += bars;
-                return Ok(());
-            }
-            After::Name { place, open, bars } => {
-                entries.count += bars;
-                depth = open;
-                i = place;
-            }
-        }
+        let after = after_name(text, end, depth)?;
+        entries.count += after.bars;
+        let Some(due) = after.due else {
+            return Ok(());
+        };
+        depth = due.depth;
+        i = due.place;
     }
 }
 
@@ -216,8 +211,9 @@ fn closing_length(before: u16, e: u16) -> usize
 }
 
 // How many bytes an entry gives after another one. A line has one byte more than its name, where the text has the separator; a bar has no line.
-// (No match on the entry, half of them being bars in no order: tried, and writing terms of 255 names took 82 microseconds where this takes 66. And not
-// one function with `put_entry_text`: that would need a trait for where the bytes go, and two types with it.)
+// (Not by a match, and not one function with `put_entry_text`, as a mark and a name that are counted or put: both tried. For terms of 255 names a match takes
+// 82 microseconds where this takes 66, and the mark and name 0.98 of plain Rust's time where these two take 0.74; the bar is 1.05 times the time before,
+// bench/README.md.)
 fn entry_length(lines: &NameLines, before: u16, e: u16) -> usize
     requires { e ≤ lines.now.n }
     ensures { (result ≡ length (entry_text lines.now.names.now (mark_after before) e)) × (result ≤ 25) }

@@ -2,7 +2,6 @@ use Prim.Native.Nat.{◌+◌}
 use native.Mathlib.Omega.{arith}
 use mathlib.Core.Path.{◌≡◌, sym, ap, ◌∙◌}
 use lib.ListN.{drop}
-use Rattle.std.specs.Prelude.{Ok}
 use Rattle.std.proofs.lemmas.Result.{err_from_is_err_and}
 use Rattle.names.specs.NamesIndex.{all_inner, hash_of}
 use Rattle.names.proofs.Bytes.{stretch_inner}
@@ -49,19 +48,17 @@ after_name-requires c =
     let x = (name_there c.loop-k.invariant c.args.list.now.index.indexed c.args.list.now.whole c.stretch_at-stretch.ensures (sym c.find.ensures ∙ c.in-Some.is)).read in
     (x.within, end_byte _ _ _ x.ends, omega (arith, x.going.shallow, x.going.within, x.going.short))
 
-pub returns-in_err-bars : goal.returns-in_err-bars
-returns-in_err-bars c =
-    let p = err_from_is_err_and c.from_residual-in_err-bars.result c.from_residual-in_err-bars.ensures.1 in
-    rw (p.1, p.2) (go_breaks (name_there c.loop-k.invariant c.args.list.now.index.indexed c.args.list.now.whole c.stretch_at-stretch.ensures (sym c.find.ensures ∙ c.in-Some.is)) _ (c.after_name.ensures.breaks _ c.in_err-bars.was))
+pub returns-in_err-after : goal.returns-in_err-after
+returns-in_err-after c =
+    let p = err_from_is_err_and c.from_residual-in_err-after.result c.from_residual-in_err-after.ensures.1 in
+    rw (p.1, p.2) (go_breaks (name_there c.loop-k.invariant c.args.list.now.index.indexed c.args.list.now.whole c.stretch_at-stretch.ensures (sym c.find.ensures ∙ c.in-Some.is)) _ (c.after_name.ensures.breaks _ c.in_err-after.was))
 
-pub returns-in-Ends : goal.returns-in-Ends
-returns-in-Ends c =
-    let z = c.after_name.ensures.ends _ (c.in_ok-bars.was ∙ ap Ok c.in-Ends.is) in
-    rw c.push.ensures.count
-    (go_taken (name_there c.loop-k.invariant c.args.list.now.index.indexed c.args.list.now.whole c.stretch_at-stretch.ensures (sym c.find.ensures ∙ c.in-Some.is)) _ c.push.ensures.kept _ z.0 z.1)
+pub returns-in_default-due : goal.returns-in_default-due
+returns-in_default-due c =
+    let z = c.after_name.ensures.ends _ c.in_ok-after.was c.in_default-due.is in
+    rw c.push.ensures.count (go_taken (name_there c.loop-k.invariant c.args.list.now.index.indexed c.args.list.now.whole c.stretch_at-stretch.ensures (sym c.find.ensures ∙ c.in-Some.is)) _ c.push.ensures.kept _ z.0 z.1)
 
 pub loop-k-preserved : goal.loop-k-preserved
 loop-k-preserved c =
-    let z : c.loop-k.entries.count + 1 + c.in-Name.bars ≡ c.loop-k.entries.count + (1 + c.in-Name.bars) = omega arith in
-    rw (c.push.ensures.count, z)
-    (go_name (name_there c.loop-k.invariant c.args.list.now.index.indexed c.args.list.now.whole c.stretch_at-stretch.ensures (sym c.find.ensures ∙ c.in-Some.is)) _ c.push.ensures.kept _ _ _ (c.after_name.ensures.name _ _ _ (c.in_ok-bars.was ∙ ap Ok c.in-Name.is)))
+    let z : c.loop-k.entries.count + 1 + c.in_ok-after.after.bars ≡ c.loop-k.entries.count + (1 + c.in_ok-after.after.bars) = omega arith in
+    rw (c.push.ensures.count, z) (go_name (name_there c.loop-k.invariant c.args.list.now.index.indexed c.args.list.now.whole c.stretch_at-stretch.ensures (sym c.find.ensures ∙ c.in-Some.is)) _ c.push.ensures.kept _ _ _ (c.after_name.ensures.name _ _ c.in_ok-after.was c.in-Some-due.is))
