@@ -175,15 +175,10 @@ impl<'a> ListBytes<'a> {
         ensures { result ≡ name_end self.now.bytes.now at }
     {
         let name = &self.bytes[at..end];
-        if self.bytes.get(end) == Some(&b'\n')
-            && name.len() <= 24
-            && is_letter(self.bytes[at])
-            && (self.clean || all_name_bytes(name))
-        {
-            Some(end)
-        } else {
-            None
+        if self.bytes.get(end) != Some(&b'\n') || 24 < name.len() || !is_letter(self.bytes[at]) {
+            return None;
         }
+        (self.clean || all_name_bytes(name)).then_some(end)
     }
 }
 
