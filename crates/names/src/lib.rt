@@ -5,16 +5,15 @@ ghost use Rattle.std.specs.Prelude.{◌≡◌, true, ◌+◌, ◌<◌, ◌≤◌
 ghost use Rattle.std.proofs.Props.{props};
 ghost use Rattle.model.specs.Answers.{Outcome};
 ghost use Rattle.model.specs.Names.{is_letter, is_name_byte, all_name_bytes, same_name, line_at, how_many_names, names_then};
-ghost use Rattle.chains.specs.Chains.{Clear};
 ghost use Rattle.words.specs.Words.{is_list_byte};
-ghost use Rattle.names.specs.NamesIndex.{caseless, all_inner, stretch, front_of, mixed, bucket_at, hash_of, StretchFrom, OnlyListBytes, name_end, name_found, Lined, NamesIndexed, Falling, Started, names_check_then, NamesAnswer};
+ghost use Rattle.names.specs.NamesIndex.{caseless, all_inner, stretch, front_of, mixed, bucket_at, hash_of, StretchFrom, OnlyListBytes, name_end, name_found, Lined, NamesIndexed, Falling, IsEmpty, names_check_then, NamesAnswer};
 
 use chains::mixed;
 use model::{Kind, Refusal};
 use words::{foreign_bytes, inner_ahead, word_at, word_or_rest, words_alike};
 
 // Where a stretch of bytes from `-` to `z` ends, and its bucket of the index.
-#[derive(Clone, Copy)]
+#[derive(Clone, Copy, PartialEq, Eq, Debug)]
 pub struct Stretch {
     pub end: usize,
     pub bucket: usize,
@@ -160,7 +159,7 @@ pub fn stretch_at(bytes: &[u8], at: usize, seed: u64) -> Stretch
 }
 
 // A names list; where `clean` is true, only bytes that may stand in one are known to stand in it.
-#[derive(Clone, Copy)]
+#[derive(Clone, Copy, Debug)]
 struct ListBytes<'a> {
     bytes: &'a [u8],
     clean: bool,
@@ -183,7 +182,7 @@ impl<'a> ListBytes<'a> {
 }
 
 // The first n lines of a names list, each of them a name: where each begins.
-#[derive(Clone, Copy)]
+#[derive(Clone, Copy, Debug)]
 pub struct NameLines<'a> {
     pub names: &'a [u8],
     pub starts: &'a [u16; 256],
@@ -205,7 +204,7 @@ impl<'a> NameLines<'a> {
 
 // Lines, no two of which have equal names, and the index of their names, by hashes that begin with a seed.
 // (The chains of a bucket are links in an array, and not a map: the library has no heap.)
-#[derive(Clone, Copy)]
+#[derive(Clone, Copy, Debug)]
 pub struct NamesIndex<'a> {
     pub lines: NameLines<'a>,
     pub heads: &'a [u16; 512],
@@ -215,7 +214,7 @@ pub struct NamesIndex<'a> {
 }
 
 // The lines of a bucket, the last first: `link` is 1 more than the next one's number, or 0 at their end.
-#[derive(Clone, Copy)]
+#[derive(Clone, Copy, Debug)]
 struct BucketLines<'a> {
     links: &'a [u16; 256],
     link: usize,
@@ -267,7 +266,7 @@ impl<'a> NamesIndex<'a> {
 }
 
 // A names list that keeps to the rules: all its lines, and their index.
-#[derive(Clone, Copy)]
+#[derive(Clone, Copy, Debug)]
 pub struct NamesList<'a> {
     pub index: NamesIndex<'a>,
     ghost whole: { index.lines.n ≡ how_many_names index.lines.names.now } by { Prim.hlevel props },
@@ -285,7 +284,7 @@ pub struct NamesRoom {
 impl NamesRoom {
     // Room with nothing in it.
     pub fn new() -> NamesRoom
-        ensures { Started result.starts × Clear 512 256 result.heads result.next }
+        ensures { IsEmpty result }
     {
         NamesRoom {
             starts: [0; 256],
@@ -296,7 +295,7 @@ impl NamesRoom {
 
     // How many names the list has, or refusal 17 at the first faulty line. Where there is none, all its lines are then known.
     fn fill(&mut self, names: &[u8], seed: u64) -> Result<usize, Refusal>
-        requires { Started self.old.starts × Clear 512 256 self.old.heads self.old.next }
+        requires { IsEmpty self.old }
         ensures { NamesAnswer seed names.now self.new.starts self.new.heads self.new.next result }
     {
         // taken apart, as the proof does not close where structs are made of `self`'s fields in a loop that writes them
@@ -345,7 +344,7 @@ impl NamesRoom {
 
     // The list, if it keeps to the rules, or refusal 17 at the first faulty line. The hashes begin with the seed, whichever it is.
     pub fn check<'a>(&'a mut self, names: &'a [u8], seed: u64) -> Result<NamesList<'a>, Refusal>
-        requires { Started self.old.starts × Clear 512 256 self.old.heads self.old.next }
+        requires { IsEmpty self.old }
         ensures decided { (o : Outcome) → names_check_then result o ≡ names_then names.now o }
         ensures of_names { IfOk result (λ l. l.index.lines.names.now ≡ names.now) }
         ensures of_seed { IfOk result (λ l. l.index.seed ≡ seed) }
