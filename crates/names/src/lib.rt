@@ -12,6 +12,9 @@ use chains::mixed;
 use model::{Kind, Refusal};
 use words::{foreign_bytes, inner_ahead, word_at, word_or_rest, words_alike};
 
+// The most bytes of a list that keeps to the rules: 255 names of 24 bytes, each with byte 10.
+const LONGEST_LIST: usize = 6375;
+
 // Where a stretch of bytes from `-` to `z` ends, and its bucket of the index.
 #[derive(Clone, Copy, PartialEq, Eq, Debug)]
 pub struct Stretch {
@@ -85,11 +88,11 @@ fn is_list_byte(b: u8) -> bool
     is_name_byte(b) || b == b'\n'
 }
 
-// Whether only bytes that may stand in a names list do. A no says nothing: a list above 6,375 bytes, too long for 255 names, is not looked through.
+// Whether only bytes that may stand in a names list do. A no says nothing: a list that is too long is not looked through.
 fn only_list_bytes(names: &[u8]) -> bool
     ensures { result ≡ true → OnlyListBytes 0 names.now }
 {
-    if 6375 < names.len() {
+    if LONGEST_LIST < names.len() {
         return false;
     }
     let (words, rest) = names.as_chunks::<8>();
@@ -114,10 +117,10 @@ fn bucket(h: u64) -> usize
     (h % 4294967296 * 2654435769 % 4294967296 / 8388608) as usize
 }
 
-// A seed for the hash, from the list's bytes, sixteen at a time, up to the 6,368th. No answer depends on it; names that share a bucket by one seed
-// do not by another.
+// A seed for the hash, from the list's bytes, sixteen at a time, as far as a list can keep to the rules. No answer depends on it; names that share a
+// bucket by one seed do not by another.
 pub fn list_seed(names: &[u8]) -> u64 {
-    let (pairs, _) = names[..names.len().min(6368)].as_chunks::<16>();
+    let (pairs, _) = names[..names.len().min(LONGEST_LIST)].as_chunks::<16>();
     let mut seed = 0;
     for (i, pair) in pairs.iter().enumerate() {
         seed = mix(
@@ -143,7 +146,7 @@ pub fn stretch_at(bytes: &[u8], at: usize, seed: u64) -> Stretch
 {
     let mut h = seed;
     let mut i = at;
-    // not chunks_exact: the last word may be short, and the stretch ends in the first word that has another byte
+    // (Not a `for` over chunks: the end would be said twice, in the word that has another byte, and after the last one where none has.)
     loop {
         let w = word_or_rest(bytes, i);
         let n = inner_ahead(w);
@@ -158,7 +161,8 @@ pub fn stretch_at(bytes: &[u8], at: usize, seed: u64) -> Stretch
     }
 }
 
-// A names list; where `clean` is true, only bytes that may stand in one are known to stand in it.
+// A names list; where `clean` is true, only bytes that may stand in one are known to stand in it. (A bool: it is read as one side of an `||`, which two
+// cases with names would make a `match`.)
 #[derive(Clone, Copy, Debug)]
 struct ListBytes<'a> {
     bytes: &'a [u8],
@@ -213,7 +217,8 @@ pub struct NamesIndex<'a> {
     ghost indexed: { NamesIndexed seed lines.names.now lines.starts.now heads.now next.now lines.n } by { Prim.hlevel props },
 }
 
-// The lines of a bucket, the last first: `link` is 1 more than the next one's number, or 0 at their end.
+// The lines of a bucket, the last first: `link` is 1 more than the next one's number, or 0 at their end. (A number, and no Option: chains' laws of links
+// are of numbers, as a row's link is a part of its word; of Options each law would be said through a function that makes the number again.)
 #[derive(Clone, Copy, Debug)]
 struct BucketLines<'a> {
     links: &'a [u16; 256],
@@ -250,7 +255,8 @@ impl<'a> NamesIndex<'a> {
         }
     }
 
-    // The line whose name is equal to this; b is the name's bucket.
+    // The line whose name is equal to this; b is the name's bucket. (No one value for both: the hash begins with the seed of this index, so the two would
+    // be tied by a `requires` still.)
     pub fn find(&self, b: usize, name: &[u8]) -> Option<usize>
         requires hashed { (b ≡ hash_of self.now.seed name.now) × (b < 512) }
         requires name_value { all_inner name.now ≡ true }
@@ -308,7 +314,8 @@ impl NamesRoom {
             bytes: names,
             clean: only_list_bytes(names),
         };
-        // not a `for`: each line's end says where the next line begins
+        // (Not a `for`: where the next line begins is known by this one's end, so the lines would be an iterator of their own, with what `next` gives and
+        // what remains stated, for this one loop.)
         let mut n = 0;
         let mut at = 0;
         while at < names.len() {
