@@ -394,11 +394,6 @@ module _ {seed : ℕ} {names starts heads next : List ℕ} {n at : ℕ} (s : Sof
 
 -- ---- the search for a name
 
--- the part of the list that a line's starts bound
-pub part_of : {names : List ℕ} {from next : ℕ} {bytes : List ℕ} → Stands names from next bytes → take (next - 1 - from) (drop from names) ≡ bytes
-part_of {names} {from} {next} {bytes} s =
-    ap (λ (i : ℕ). take i (drop from names)) (let e : next - 1 - from ≡ length bytes = omega (arith, s.ends) in e) ∙ s.part
-
 -- the line that a chain is walked for
 abbrev pub sought : (names name : List ℕ) → ℕ → Bool
 sought names name k = same_name (line_at names k).bytes name

@@ -22,7 +22,7 @@ use Rattle.model.proofs.Choice.{and_true}
 use Rattle.words.specs.Words.{words_alike, packed, Word, lanes, is_inner, inner_ahead, is_list_byte, foreign}
 use Rattle.words.proofs.Reading.{Bytes, others, taken, dropped, packed_front, eight_packed}
 use Rattle.words.proofs.Alike.{words_list}
-use Rattle.names.specs.NamesIndex.{caseless, all_inner, stretch, OnlyListBytes, front_of, mixed, mix_words, bucket_at, hash_of}
+use Rattle.names.specs.NamesIndex.{caseless, all_inner, stretch, OnlyListBytes, front_of, mixed, mix_words, bucket_at, hash_of, StretchFrom}
 use Rattle.names.proofs.Bytes.{inner_others, stretch_split}
 
 -- ---- parts of bytes
@@ -212,6 +212,11 @@ hash_word h xs ys e =
 
 -- ---- the word read at i
 
+-- the stretch from `at` goes on at i, with the hash h so far
+abbrev pub GoesOn : (seed at : ℕ) (bytes : List ℕ) (i h : ℕ) → Type 0
+GoesOn seed at bytes i h =
+    (i ≤ length bytes) × (i + length (stretch (drop i bytes)) ≡ at + length (stretch (drop at bytes))) × (hash_of h (stretch (drop i bytes)) ≡ hash_of seed (stretch (drop at bytes)))
+
 module _ (bytes : List ℕ) (i w : ℕ) (p : Bytes bytes) (v : Word 8 i bytes w) where
   small : Bytes (take 8 (drop i bytes))
   small = taken 8 (drop i bytes) (dropped i bytes p)
@@ -221,7 +226,7 @@ module _ (bytes : List ℕ) (i w : ℕ) (p : Bytes bytes) (v : Word 8 i bytes w)
     front : n ≡ length (stretch (take 8 (drop i bytes)))
     front = e ∙ ap (inner_ahead 8) v.is ∙ ahead_stretch 8 (take 8 (drop i bytes)) small (omega (arith, length-take 8 (drop i bytes)))
 
-    pub front_within : n ≤ length (take 8 (drop i bytes))
+    front_within : n ≤ length (take 8 (drop i bytes))
     front_within = omega (arith, front, stretch_short (take 8 (drop i bytes)))
 
     -- fewer than eight: the stretch ends there
@@ -229,15 +234,25 @@ module _ (bytes : List ℕ) (i w : ℕ) (p : Bytes bytes) (v : Word 8 i bytes w)
       stretch_here : stretch (drop i bytes) ≡ stretch (take 8 (drop i bytes))
       stretch_here = stretch_within 8 (drop i bytes) (omega (arith, front))
 
-      pub stops_at : length (stretch (drop i bytes)) ≡ n
+      stops_at : length (stretch (drop i bytes)) ≡ n
       stops_at = ap length stretch_here ∙ sym front
 
-      pub stops_hash : (h b m : ℕ) → m ≡ mixed h (front_of n w) → b ≡ bucket_at m → b ≡ hash_of h (stretch (drop i bytes))
+      stops_hash : (h b m : ℕ) → m ≡ mixed h (front_of n w) → b ≡ bucket_at m → b ≡ hash_of h (stretch (drop i bytes))
       stops_hash h b m f g =
           let q : front_of n w ≡ packed (map caseless (stretch (drop i bytes))) =
           front_bits (take 8 (drop i bytes)) n w small front_within (omega arith) v.is
           ∙ ap (λ (x : List ℕ). packed (map caseless x)) (ap (λ (k : ℕ). take k (take 8 (drop i bytes))) front ∙ stretch_front (take 8 (drop i bytes)) ∙ sym stretch_here) in
           g ∙ ap bucket_at (f ∙ ap (mixed h) q) ∙ sym (hash_few h (stretch (drop i bytes)) (omega (arith, stops_at)))
+
+      pub stops : (seed at h : ℕ) → GoesOn seed at bytes i h → (b m : ℕ) → m ≡ mixed h (front_of n w) → (b ≡ bucket_at m) × (b < 512)
+          → StretchFrom seed bytes at (record { end = i + n; bucket = b })
+      stops seed at h s b m f g =
+          record {
+            ends = omega (arith, stops_at, s.1);
+            within = omega (arith, front_within, length-take 8 (drop i bytes), length-drop i bytes, s.0);
+            hashed = stops_hash h b m f g.0 ∙ s.2;
+            below = g.1;
+          }
 
     -- all eight: it goes on
     module _ (ge : 8 ≤ n) where
@@ -252,16 +267,19 @@ module _ (bytes : List ℕ) (i w : ℕ) (p : Bytes bytes) (v : Word 8 i bytes w)
           stretch_beyond 8 (drop i bytes) (omega (arith, front, stretch_short (take 8 (drop i bytes)), long))
           ∙ ap (λ (x : List ℕ). take 8 (drop i bytes) ++ stretch x) (drop-drop 8 i bytes)
 
-      pub goes_on_lem : i + length (stretch (drop i bytes)) ≡ i + 8 + length (stretch (drop (i + 8) bytes))
+      goes_on_lem : i + length (stretch (drop i bytes)) ≡ i + 8 + length (stretch (drop (i + 8) bytes))
       goes_on_lem = let a = ap length stretch_on in omega (arith, a, length-append (take 8 (drop i bytes)) (stretch (drop (i + 8) bytes)), long)
 
-      pub goes_hash : (h m : ℕ) → m ≡ mixed h (bit_or w 0x2020_2020_2020_2020) → hash_of m (stretch (drop (i + 8) bytes)) ≡ hash_of h (stretch (drop i bytes))
+      goes_hash : (h m : ℕ) → m ≡ mixed h (bit_or w 0x2020_2020_2020_2020) → hash_of m (stretch (drop (i + 8) bytes)) ≡ hash_of h (stretch (drop i bytes))
       goes_hash h m f =
           let b : bit_or w 0x2020_2020_2020_2020 ≡ packed (map caseless (take 8 (drop i bytes))) =
           ap₂ bit_or v.is ((bits_front 8 (omega arith)).0 ∙ ap packed (sym (all_bits 8 (take 8 (drop i bytes)) long))) ∙ set_bits (take 8 (drop i bytes)) small in
           ap (λ (x : ℕ). hash_of x (stretch (drop (i + 8) bytes))) (f ∙ ap (mixed h) b)
           ∙ sym (hash_word h (take 8 (drop i bytes)) (stretch (drop (i + 8) bytes)) long)
           ∙ ap (hash_of h) (sym stretch_on)
+
+      pub goes : (seed at h : ℕ) → GoesOn seed at bytes i h → (m : ℕ) → m ≡ mixed h (bit_or w 0x2020_2020_2020_2020) → GoesOn seed at bytes (i + 8) m
+      goes seed at h s m f = (goes_within, sym goes_on_lem ∙ s.1, goes_hash h m f ∙ s.2)
 
 -- ---- only bytes of a names list
 

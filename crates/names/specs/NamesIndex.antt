@@ -5,11 +5,12 @@ use Rattle.model.specs.Answers.{Outcome, refused_by}
 use Rattle.model.specs.Names.{is_name, same_name, line_at, how_many_names, names_then}
 use Rattle.chains.specs.First.{first_with}
 use Rattle.words.specs.Words.{is_inner, is_list_byte, packed}
-use Rattle.chains.specs.Chains.{Chains}
+use Rattle.chains.specs.Chains.{Chains, Clear}
 use Rattle.chains.specs.Digest.{mixed_by}
 use Rattle.std.specs.Prelude.{Option}
 use Rattle.std.specs.Prelude.{Some, None}
 use Rattle.names.specs.declared.Stretch.{Stretch}
+use Rattle.names.specs.declared.NamesRoom.{NamesRoom}
 use Rattle.model.specs.declared.Refusal.{Refusal}
 
 -- where the name of the line that begins at `at` ends; nothing where the line is no name, or byte 10 does not follow
@@ -99,6 +100,10 @@ pub record Falling (links : List ℕ) (link : ℕ) : Type 0 where
 pub record Started (starts : List ℕ) : Type 0 where
   pub long : length starts ≡ 256
   pub first : get_or starts 0 0 ≡ 0
+
+-- room with nothing in it
+abbrev pub IsEmpty : NamesRoom → Type 0
+IsEmpty room = Started room.starts × Clear 512 256 room.heads room.next
 
 -- the refusal, or what follows where the list keeps to the rules
 abbrev pub names_check_then : {A : Type 0} → Result A Refusal → Outcome → Outcome

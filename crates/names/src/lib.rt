@@ -5,16 +5,18 @@ ghost use Rattle.std.specs.Prelude.{◌≡◌, true, ◌+◌, ◌<◌, ◌≤◌
 ghost use Rattle.std.proofs.Props.{props};
 ghost use Rattle.model.specs.Answers.{Outcome};
 ghost use Rattle.model.specs.Names.{is_letter, is_name_byte, all_name_bytes, same_name, line_at, how_many_names, names_then};
-ghost use Rattle.chains.specs.Chains.{Clear};
 ghost use Rattle.words.specs.Words.{is_list_byte};
-ghost use Rattle.names.specs.NamesIndex.{caseless, all_inner, stretch, front_of, mixed, bucket_at, hash_of, StretchFrom, OnlyListBytes, name_end, name_found, Lined, NamesIndexed, Falling, Started, names_check_then, NamesAnswer};
+ghost use Rattle.names.specs.NamesIndex.{caseless, all_inner, stretch, front_of, mixed, bucket_at, hash_of, StretchFrom, OnlyListBytes, name_end, name_found, Lined, NamesIndexed, Falling, IsEmpty, names_check_then, NamesAnswer};
 
 use chains::mixed;
 use model::{Kind, Refusal};
 use words::{foreign_bytes, inner_ahead, word_at, word_or_rest, words_alike};
 
+// The most bytes of a list that keeps to the rules: 255 names of 24 bytes, each with byte 10.
+const LONGEST_LIST: usize = 6375;
+
 // Where a stretch of bytes from `-` to `z` ends, and its bucket of the index.
-#[derive(Clone, Copy)]
+#[derive(Clone, Copy, PartialEq, Eq, Debug)]
 pub struct Stretch {
     pub end: usize,
     pub bucket: usize,
@@ -86,11 +88,11 @@ fn is_list_byte(b: u8) -> bool
     is_name_byte(b) || b == b'\n'
 }
 
-// Whether only bytes that may stand in a names list do. A no says nothing: a list above 6,375 bytes, too long for 255 names, is not looked through.
+// Whether only bytes that may stand in a names list do. A no says nothing: a list that is too long is not looked through.
 fn only_list_bytes(names: &[u8]) -> bool
     ensures { result ≡ true → OnlyListBytes 0 names.now }
 {
-    if 6375 < names.len() {
+    if LONGEST_LIST < names.len() {
         return false;
     }
     let (words, rest) = names.as_chunks::<8>();
@@ -115,10 +117,10 @@ fn bucket(h: u64) -> usize
     (h % 4294967296 * 2654435769 % 4294967296 / 8388608) as usize
 }
 
-// A seed for the hash, from the list's bytes, sixteen at a time, up to the 6,368th. No answer depends on it; names that share a bucket by one seed
-// do not by another.
+// A seed for the hash, from the list's bytes, sixteen at a time, as far as a list can keep to the rules. No answer depends on it; names that share a
+// bucket by one seed do not by another.
 pub fn list_seed(names: &[u8]) -> u64 {
-    let (pairs, _) = names[..names.len().min(6368)].as_chunks::<16>();
+    let (pairs, _) = names[..names.len().min(LONGEST_LIST)].as_chunks::<16>();
     let mut seed = 0;
     for (i, pair) in pairs.iter().enumerate() {
         seed = mix(
@@ -144,7 +146,7 @@ pub fn stretch_at(bytes: &[u8], at: usize, seed: u64) -> Stretch
 {
     let mut h = seed;
     let mut i = at;
-    // not chunks_exact: the last word may be short, and the stretch ends in the first word that has another byte
+    // (Not a `for` over chunks: the end would be said twice, in the word that has another byte, and after the last one where none has.)
     loop {
         let w = word_or_rest(bytes, i);
         let n = inner_ahead(w);
@@ -159,8 +161,9 @@ pub fn stretch_at(bytes: &[u8], at: usize, seed: u64) -> Stretch
     }
 }
 
-// A names list; where `clean` is true, only bytes that may stand in one are known to stand in it.
-#[derive(Clone, Copy)]
+// A names list; where `clean` is true, only bytes that may stand in one are known to stand in it. (A bool: it is read as one side of an `||`, which two
+// cases with names would make a `match`.)
+#[derive(Clone, Copy, Debug)]
 struct ListBytes<'a> {
     bytes: &'a [u8],
     clean: bool,
@@ -175,20 +178,15 @@ impl<'a> ListBytes<'a> {
         ensures { result ≡ name_end self.now.bytes.now at }
     {
         let name = &self.bytes[at..end];
-        if self.bytes.get(end) == Some(&b'\n')
-            && name.len() <= 24
-            && is_letter(self.bytes[at])
-            && (self.clean || all_name_bytes(name))
-        {
-            Some(end)
-        } else {
-            None
+        if self.bytes.get(end) != Some(&b'\n') || 24 < name.len() || !is_letter(self.bytes[at]) {
+            return None;
         }
+        (self.clean || all_name_bytes(name)).then_some(end)
     }
 }
 
 // The first n lines of a names list, each of them a name: where each begins.
-#[derive(Clone, Copy)]
+#[derive(Clone, Copy, Debug)]
 pub struct NameLines<'a> {
     pub names: &'a [u8],
     pub starts: &'a [u16; 256],
@@ -210,7 +208,7 @@ impl<'a> NameLines<'a> {
 
 // Lines, no two of which have equal names, and the index of their names, by hashes that begin with a seed.
 // (The chains of a bucket are links in an array, and not a map: the library has no heap.)
-#[derive(Clone, Copy)]
+#[derive(Clone, Copy, Debug)]
 pub struct NamesIndex<'a> {
     pub lines: NameLines<'a>,
     pub heads: &'a [u16; 512],
@@ -219,8 +217,9 @@ pub struct NamesIndex<'a> {
     ghost indexed: { NamesIndexed seed lines.names.now lines.starts.now heads.now next.now lines.n } by { Prim.hlevel props },
 }
 
-// The lines of a bucket, the last first: `link` is 1 more than the next one's number, or 0 at their end.
-#[derive(Clone, Copy)]
+// The lines of a bucket, the last first: `link` is 1 more than the next one's number, or 0 at their end. (A number, and no Option: chains' laws of links
+// are of numbers, as a row's link is a part of its word; of Options each law would be said through a function that makes the number again.)
+#[derive(Clone, Copy, Debug)]
 struct BucketLines<'a> {
     links: &'a [u16; 256],
     link: usize,
@@ -256,7 +255,8 @@ impl<'a> NamesIndex<'a> {
         }
     }
 
-    // The line whose name is equal to this; b is the name's bucket.
+    // The line whose name is equal to this; b is the name's bucket. (No one value for both: the hash begins with the seed of this index, so the two would
+    // be tied by a `requires` still.)
     pub fn find(&self, b: usize, name: &[u8]) -> Option<usize>
         requires hashed { (b ≡ hash_of self.now.seed name.now) × (b < 512) }
         requires name_value { all_inner name.now ≡ true }
@@ -272,7 +272,7 @@ impl<'a> NamesIndex<'a> {
 }
 
 // A names list that keeps to the rules: all its lines, and their index.
-#[derive(Clone, Copy)]
+#[derive(Clone, Copy, Debug)]
 pub struct NamesList<'a> {
     pub index: NamesIndex<'a>,
     ghost whole: { index.lines.n ≡ how_many_names index.lines.names.now } by { Prim.hlevel props },
@@ -290,7 +290,7 @@ pub struct NamesRoom {
 impl NamesRoom {
     // Room with nothing in it.
     pub fn new() -> NamesRoom
-        ensures { Started result.starts × Clear 512 256 result.heads result.next }
+        ensures { IsEmpty result }
     {
         NamesRoom {
             starts: [0; 256],
@@ -301,7 +301,7 @@ impl NamesRoom {
 
     // How many names the list has, or refusal 17 at the first faulty line. Where there is none, all its lines are then known.
     fn fill(&mut self, names: &[u8], seed: u64) -> Result<usize, Refusal>
-        requires { Started self.old.starts × Clear 512 256 self.old.heads self.old.next }
+        requires { IsEmpty self.old }
         ensures { NamesAnswer seed names.now self.new.starts self.new.heads self.new.next result }
     {
         // taken apart, as the proof does not close where structs are made of `self`'s fields in a loop that writes them
@@ -314,7 +314,8 @@ impl NamesRoom {
             bytes: names,
             clean: only_list_bytes(names),
         };
-        // not a `for`: each line's end says where the next line begins
+        // (Not a `for`: where the next line begins is known by this one's end, so the lines would be an iterator of their own, with what `next` gives and
+        // what remains stated, for this one loop.)
         let mut n = 0;
         let mut at = 0;
         while at < names.len() {
@@ -350,7 +351,7 @@ impl NamesRoom {
 
     // The list, if it keeps to the rules, or refusal 17 at the first faulty line. The hashes begin with the seed, whichever it is.
     pub fn check<'a>(&'a mut self, names: &'a [u8], seed: u64) -> Result<NamesList<'a>, Refusal>
-        requires { Started self.old.starts × Clear 512 256 self.old.heads self.old.next }
+        requires { IsEmpty self.old }
         ensures decided { (o : Outcome) → names_check_then result o ≡ names_then names.now o }
         ensures of_names { IfOk result (λ l. l.index.lines.names.now ≡ names.now) }
         ensures of_seed { IfOk result (λ l. l.index.seed ≡ seed) }

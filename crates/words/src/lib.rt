@@ -73,7 +73,9 @@ pub fn word_at<const N: usize>(bytes: &[u8], at: usize) -> u64
 }
 
 // What is left of the bytes, fewer than eight, as one number. (Not as `word_at`: with a length that is not known when this is compiled,
-// copy_from_slice calls memcpy, and the archive needs memset alone.)
+// copy_from_slice calls memcpy, and the archive needs memset alone: README.md. A call, as it comes once a list: within the loop over a name's words
+// it took registers, and checking 255 names took 5.1 microseconds in place of 4.5.)
+#[inline(never)]
 fn rest_at(bytes: &[u8], at: usize) -> u64
     requires { (at ≤ length bytes.now) × (length bytes.now < at + 8) }
     ensures { Word 8 at bytes.now result }

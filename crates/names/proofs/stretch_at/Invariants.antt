@@ -1,13 +1,10 @@
-use Prim.Native.Nat.{◌+◌, ◌≤◌, ◌-◌}
-use mathlib.Core.Path.{◌≡◌}
-use lib.ListN.{length, drop}
-use Rattle.names.specs.NamesIndex.{stretch, hash_of}
+use Prim.Native.Nat.{◌-◌}
+use lib.ListN.{length}
+use Rattle.names.proofs.Words.{GoesOn}
 use Rattle.names.proofs.stretch_at.Given as goal
 
 abbrev pub invariant-loop-at : goal.invariant-loop-at
-invariant-loop-at l =
-    (l.i ≤ length l.bytes) × (l.i + length (stretch (drop l.i l.bytes)) ≡ l.at + length (stretch (drop l.at l.bytes)))
-    × (hash_of l.h (stretch (drop l.i l.bytes)) ≡ hash_of l.seed (stretch (drop l.at l.bytes)))
+invariant-loop-at l = GoesOn l.seed l.at l.bytes l.i l.h
 
 abbrev pub decreases-loop-at : goal.decreases-loop-at
 decreases-loop-at l = length l.bytes - l.i
