@@ -20,7 +20,7 @@ pub struct Lists<'a> {
 }
 
 // The most bytes that answer one line.
-const LONGEST_LINE: usize = 53249;
+pub const LONGEST_LINE: usize = 53249;
 
 // A line so far: its first 4,096 bytes, how many bytes it has (4,097 stands for more), and the number that they make while all are digits. The
 // largest number of 64 bits, which is below no total, stands for every number from there up.
