@@ -4,7 +4,7 @@ use mathlib.Core.Path.{◌≡◌, refl}
 use mathlib.Core.List.{[], ◌∷◌, map}
 use Rattle.model.specs.Text.{ascii}
 use Rattle.model.proofs.TermExamples.{bytes_with}
-use Rattle.line.specs.Lines.{is_digit, number_after, number_in, decimal_by, decimal}
+use Rattle.line.specs.Lines.{is_digit, number_after, number_in}
 
 -- of all 256 bytes, these
 pub digit_bytes : bytes_with is_digit 256 ≡ ascii "0123456789"
@@ -20,8 +20,3 @@ digit_values = refl
 pub digits_in : number_in (ascii "1234567890") ∷ number_in (ascii "0012") ∷ [] ≡ 1234567890 ∷ 12 ∷ []
 unfolding ascii number_in number_after
 digits_in = refl
-
--- and back, without them (for every number: the laws `decimal_in` and `decimal_first`)
-pub decimal_examples : map decimal (0 ∷ 9 ∷ 10 ∷ 2048 ∷ []) ≡ ascii "0" ∷ ascii "9" ∷ ascii "10" ∷ ascii "2048" ∷ []
-unfolding ascii decimal decimal_by
-decimal_examples = refl

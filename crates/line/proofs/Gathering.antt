@@ -1,9 +1,9 @@
 -- Answers put one after another. Assumes nothing.
-use Prim.Native.Nat.{ℕ, ◌+◌, ◌-◌, ◌<◌, ◌≤◌, min}
+use Prim.Native.Nat.{ℕ, ◌+◌, ◌-◌, ◌<◌, ◌≤◌}
 use mathlib.Core.Path.{◌≡◌, refl, sym, ap, ◌∙◌}
 use mathlib.Core.List.{List, [], ◌++◌}
 use native.Mathlib.Omega.{arith}
-use lib.ListN.{length, take, drop, length-append, length-take, length-drop}
+use lib.ListN.{length, take, drop, length-append}
 use lib.Seq.{length-take-le, take-append-le, take-append-add, drop-drop, take-add}
 use Rattle.line.specs.Held.{part, held_after, put_for}
 use Rattle.line.specs.Feeding.{Holds, Prints}
@@ -76,9 +76,3 @@ module _ {states : ℕ} {rows accepting names bytes : List ℕ} {from : ℕ} {li
           };
         });
   }
-
-pub rest_room : (out : List ℕ) (n k : ℕ) → k ≤ length out - n → k ≤ length (take (length out - n) (drop n out))
-rest_room out n k l = simp (length-take, length-drop) (omega arith)
-
-pub count_fits : (out ys : List ℕ) (n c : ℕ) → n ≤ length out → length ys ≡ length (take (length out - n) (drop n out)) → c ≤ length ys → n + c ≤ length out
-count_fits out ys n c l e w = let k : length ys ≡ min (length out - n) (length out - n) = simp (length-take, length-drop) at e in omega arith

@@ -4,14 +4,14 @@
 ghost use Rattle.std.specs.Prelude.{◌≡◌, true, List, [], ◌∷◌, ◌++◌, ℕ, ◌+◌, ◌<◌, ◌≤◌, length, ltb, if◌then◌else◌};
 ghost use Rattle.model.specs.Answers.{refused_by};
 ghost use Rattle.term.specs.Written.{Put};
-ghost use Rattle.line.specs.Lines.{decimal, printed, answer_number, answer_term, answer_to, output_for};
+ghost use Rattle.line.specs.Lines.{decimal, printed};
 ghost use Rattle.line.specs.Held.{no_end, with_digit, with_digits, longest_line, Holding, Begins, Answers, Ends, part};
 
 use model::{Kind, Refusal};
 use term::put_bytes;
 
 // What a program answers by: a table and a names list.
-#[derive(Clone, Copy)]
+#[derive(Clone, Copy, PartialEq, Eq, Debug)]
 pub struct Lists<'a> {
     pub states: u64,
     pub rows: &'a [u16],
@@ -20,11 +20,13 @@ pub struct Lists<'a> {
 }
 
 // The most bytes that answer one line.
-const LONGEST_LINE: usize = 53249;
+pub const LONGEST_LINE: usize = 53249;
 
 // A line so far: its first 4,096 bytes, how many bytes it has (4,097 stands for more), and the number that they make while all are digits. The
 // largest number of 64 bits, which is below no total, stands for every number from there up.
-#[derive(Clone, Copy)]
+// (Both stop at a largest value, and are no enums: a line that is longer is answered as one of 4,097 bytes is, and a number beyond as the largest, so
+// a case `Longer` or `Beyond` would be one more to each `match`, with the same answer in it.)
+#[derive(Clone, Copy, Debug)]
 pub struct Line {
     text: [u8; 4096],
     len: usize,
@@ -40,10 +42,9 @@ pub struct Fed {
 }
 
 // The number that digits make, with one byte more; none where that is no digit.
-fn with_digit(number: Option<u64>, b: u8) -> Option<u64>
-    ensures { result ≡ with_digit number b }
+fn with_digit(n: u64, b: u8) -> Option<u64>
+    ensures { result ≡ with_digit (Some n) b }
 {
-    let n = number?;
     if !b.is_ascii_digit() {
         return None;
     }
@@ -51,13 +52,10 @@ fn with_digit(number: Option<u64>, b: u8) -> Option<u64>
 }
 
 // The same with more bytes, one after another.
-fn with_digits(mut number: Option<u64>, bytes: &[u8]) -> Option<u64>
+fn with_digits(number: Option<u64>, bytes: &[u8]) -> Option<u64>
     ensures { result ≡ with_digits number bytes.now }
 {
-    for b in bytes {
-        number = with_digit(number, *b);
-    }
-    number
+    bytes.iter().try_fold(number?, |n, b| with_digit(n, *b))
 }
 
 // The place of the first byte that ends a line.
@@ -141,7 +139,8 @@ fn put_refusal(r: Refusal, out: &mut [u8; LONGEST_LINE]) -> usize
 }
 
 impl Lists<'_> {
-    ghost use Rattle.line.specs.Feeding.{Holds, Prints};
+    ghost use Rattle.line.specs.Feeding.{Holds};
+    ghost use Rattle.line.specs.Answered.{number_answer_of, term_answer_of, answer_of, output_of, PrintsFor};
 
     // Puts the output line that answers a number, its term, unless there is a refusal; the number's tree is written into `tree`.
     fn answer_number(
@@ -150,7 +149,7 @@ impl Lists<'_> {
         tree: &mut [u16; 4096],
         out: &mut [u8; LONGEST_LINE],
     ) -> Result<usize, Refusal>
-        ensures { Answers out.new (answer_number self.now.states self.now.rows.now self.now.accepting.now self.now.names.now number) result }
+        ensures { Answers out.new (number_answer_of self.now number) result }
     {
         let count = operations::write(
             self.states,
@@ -171,7 +170,7 @@ impl Lists<'_> {
         tree: &mut [u16; 4096],
         out: &mut [u8; LONGEST_LINE],
     ) -> Result<usize, Refusal>
-        ensures { Answers out.new (answer_term self.now.states self.now.rows.now self.now.accepting.now self.now.names.now text.now) result }
+        ensures { Answers out.new (term_answer_of self.now text.now) result }
     {
         let count = term::read_term(self.names, text, tree)? as usize;
         let number = operations::number(self.states, self.rows, self.accepting, &tree[..count])?;
@@ -185,8 +184,7 @@ impl Lists<'_> {
         tree: &mut [u16; 4096],
         out: &mut [u8; LONGEST_LINE],
     ) -> Result<usize, Refusal>
-        ensures { (held : List ℕ) → Holds held line.now
-            → Answers out.new (answer_to self.now.states self.now.rows.now self.now.accepting.now self.now.names.now held) result }
+        ensures { (held : List ℕ) → Holds held line.now → Answers out.new (answer_of self.now held) result }
     {
         if let Some(number) = line.number_of() {
             return self.answer_number(number, tree, out);
@@ -198,11 +196,12 @@ impl Lists<'_> {
     }
 
     // Puts the output line that answers an input line, a refusal too.
+    // (`out` is no array: tried, and where `gather` cuts one out of `out[filled..]` by `first_chunk_mut`, of the list afterwards only the length is
+    // known, not that the answers before are still in it.)
     fn answer(&self, line: &Line, tree: &mut [u16; 4096], out: &mut [u8]) -> usize
         requires { longest_line ≤ length out.old }
         ensures within { result ≤ length out.new }
-        ensures begins { (held : List ℕ) → Holds held line.now
-            → Begins out.new (answer_to self.now.states self.now.rows.now self.now.accepting.now self.now.names.now held) result }
+        ensures begins { (held : List ℕ) → Holds held line.now → Begins out.new (answer_of self.now held) result }
     {
         let room = out.first_chunk_mut().unwrap();
         match self.answer_line(line, tree, room) {
@@ -212,7 +211,8 @@ impl Lists<'_> {
     }
 
     // Feeds the bytes from a place on, up to the end of a line or of the bytes. Where a line has ended, puts the output line that answers
-    // it; `tree` is a list to work in.
+    // it; `tree` is a list to work in. (`out`: as in `answer`. `tree` and `out` are no struct: one list to work in serves all lines, and each line
+    // has another piece of `out`, so the struct would be made anew for each line, to be taken apart at the two calls that it ends in.)
     fn feed_line(
         &self,
         line: &mut Line,
@@ -225,8 +225,7 @@ impl Lists<'_> {
         ensures from_lt_next { (from < result.next) × (result.next ≤ length bytes.now) }
         ensures within { result.count ≤ length out.new }
         ensures by_index { (held : List ℕ) → Holds held line.old
-            → Prints self.now.states self.now.rows.now self.now.accepting.now self.now.names.now held
-            (part bytes.now from result.next) line.new out.new result.count }
+            → PrintsFor self.now held (part bytes.now from result.next) line.new out.new result.count }
     {
         let Some(end) = line_end(&bytes[from..]) else {
             line.feed(&bytes[from..]);
@@ -247,15 +246,13 @@ impl Lists<'_> {
 
     // Feeds the bytes from a place on, line after line, to the end of the bytes or until the list may have no room for one answer more; puts what is to
     // be printed, one answer after another.
-    // (`out` is a slice, and its room a `requires`: each line is lent the rest of it, and what an array that `first_chunk_mut` cuts out of such a rest
-    // leaves in the list is not known here.)
+    // (`out` has its room by `requires`: as an array, its type would ask callers for its exact length.)
     pub fn gather(&self, line: &mut Line, bytes: &[u8], from: usize, out: &mut [u8]) -> Fed
         requires from_in_bounds { (from < length bytes.now) × (longest_line ≤ length out.old) }
         ensures from_lt_next { (from < result.next) × (result.next ≤ length bytes.now) }
         ensures within { result.count ≤ length out.new }
         ensures by_index { (held : List ℕ) → Holds held line.old
-            → Prints self.now.states self.now.rows.now self.now.accepting.now self.now.names.now held
-            (part bytes.now from result.next) line.new out.new result.count }
+            → PrintsFor self.now held (part bytes.now from result.next) line.new out.new result.count }
     {
         let mut tree = [0u16; 4096];
         let mut i = from;
@@ -272,12 +269,11 @@ impl Lists<'_> {
     }
 
     // At the end of the input: puts the output line that answers a last line without byte 10, or nothing where that line is empty;
-    // gives how many bytes are to be printed.
+    // gives how many bytes are to be printed. (`out`: as in `gather`.)
     pub fn last_line(&self, line: &Line, out: &mut [u8]) -> usize
         requires longest_line_in_bounds { longest_line ≤ length out.old }
         ensures within { result ≤ length out.new }
-        ensures begins { (held : List ℕ) → Holds held line.now
-            → Begins out.new (output_for self.now.states self.now.rows.now self.now.accepting.now self.now.names.now held) result }
+        ensures begins { (held : List ℕ) → Holds held line.now → Begins out.new (output_of self.now held) result }
     {
         if line.len == 0 {
             return 0;

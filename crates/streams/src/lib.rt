@@ -143,6 +143,7 @@ pub struct Reason(pub io::Error);
 
 impl Display for Reason {
     fn fmt<W: fmt::Write>(&self, f: &mut fmt::Formatter<W>) -> fmt::Result {
+        // (An array and what `write!` leaves of it: `to_string` and `String` would need the heap, which the program has none of.)
         let mut text = [0u8; 256];
         let mut room = &mut text[..];
         let _ = write!(room, "{}", self.0);

@@ -20,7 +20,7 @@ use Rattle.streams.proofs.Laws.{logged_none, logged_both}
 use Rattle.treenum.specs.Treenum.{printed_for, put_after, PrintsLine}
 use Rattle.treenum.specs.Run.{log_of, Parts, at_end, after_read, has_ended, Feeds, TakesPart, Stops, Ran}
 use Rattle.treenum.specs.declared.Failure.{Failure}
-use Rattle.treenum.specs.declared.Failure.TheVariants.{Read, Write, TooManyReads}
+use Rattle.treenum.specs.declared.Failure.TheVariants.{Read, Write}
 
 -- ---- the bytes of a read
 
@@ -190,11 +190,3 @@ module _ {before : ℕ} {line : Line} {log reads : ℕ} (s : SoFar before line l
         is_run = record { parts = s.parts; of_parts = s.of_parts; tail = t.tail; whole = refl; ends = t.ends };
         logged = logged_both before (log_of [] s.parts) t.tail s.logged t.logged;
       }
-
-  -- there were as many reads as can be counted
-  pub so_far_last : reads ≡ 18446744073709551615 → Ran (Err TooManyReads) before log
-  so_far_last e = record {
-    log = log_of [] s.parts;
-    is_run = record { parts = s.parts; of_parts = s.of_parts; tail = []; whole = sym (append-nil (log_of [] s.parts)); ends = (s.counted ∙ e, refl) };
-    logged = s.logged;
-  }

@@ -12,7 +12,7 @@ ghost use Rattle.streams.specs.Parts.{Wrote};
 ghost use Rattle.treenum.specs.Treenum.{printed_for, PrintsLine};
 ghost use Rattle.treenum.specs.Run.{Feeds, Ran};
 
-use line::{Fed, Line, Lists};
+use line::{Fed, LONGEST_LINE, Line, Lists};
 use std::fmt::Display;
 use std::process::ExitCode;
 use std::{fmt, io};
@@ -37,8 +37,13 @@ const PAPER: Lists<'static> = Lists {
     names: &NAMES,
 };
 
-// What is to be printed is gathered here: room for 16,384 bytes, and for one answer more.
-type Out = [u8; 69633];
+// The most bytes of one read.
+const PART: usize = 16384;
+
+// What is to be printed is gathered here: room for so many bytes, and for one answer more.
+const ROOM: usize = PART + LONGEST_LINE;
+
+type Out = [u8; ROOM];
 
 // Why a run ends before all is answered: a read failed; a write failed; or there were more reads than can be counted.
 #[derive(Clone, Copy, Debug)]
@@ -57,6 +62,9 @@ impl Display for Failure {
         }
     }
 }
+
+// (`line` and `out` are lent apart: no struct of them lasts from call to call, as the list is empty at each read and where the input has ended, and
+// `last_line` and `finish` only read the line.)
 
 // Feeds the bytes from a place on, to the end of the bytes or until the list may have no room for one answer more; puts what is to be printed.
 fn gather(line: &mut Line, bytes: &[u8], from: usize, out: &mut Out) -> Fed
@@ -103,8 +111,8 @@ fn finish(line: &Line, out: &mut Out, stdio: &mut Stdio) -> io::Result<()>
 fn run(stdio: &mut Stdio) -> Result<(), Failure>
     ensures { Ran result stdio.old.log stdio.new.log }
 {
-    let mut chunk = [0u8; 16384];
-    let mut out: Out = [0; 69633];
+    let mut chunk = [0u8; PART];
+    let mut out: Out = [0; ROOM];
     let mut line = Line::new();
     for _ in 0..u64::MAX {
         match stdio.read_part(&mut chunk).map_err(Failure::Read)? {
