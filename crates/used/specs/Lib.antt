@@ -1,3 +1,4 @@
 pub mod Marked
 pub mod Limits
 pub mod Settled
+pub mod ByTarget

@@ -7,9 +7,10 @@ ghost use Rattle.model.specs.Count.{product};
 ghost use Rattle.model.specs.Reach.{is_among};
 ghost use Rattle.rows.specs.Listed.{all_rows};
 ghost use Rattle.counts.specs.States.{held};
-ghost use Rattle.used.specs.Marked.{Placed, NoneEmpty, MarkedToo, RowPlaced, row_names, listed_by, AllMarked, PassedBy, TurnReady, Turned, PassReady, FoundUsed};
+ghost use Rattle.used.specs.Marked.{Placed, NoneEmpty, MarkedToo, RowPlaced, row_names, listed_by, AllMarked, PassedBy, TurnReady, Turned};
 ghost use Rattle.used.specs.Limits.{limits_of, BeyondFrom, FaultReady, FirstUsed};
-ghost use Rattle.used.specs.Settled.{RowsChained, RowsCleared, ClearReady, Cleared, SettleReady, Settled};
+ghost use Rattle.used.specs.ByTarget.{PassReadyOf, FoundUsedOf, SettleReadyOf, SettledOf};
+ghost use Rattle.used.specs.Settled.{RowsChained, RowsCleared, ClearReady, Cleared};
 
 use counts::{ByTarget, RowsOfState};
 use model::{Kind, Refusal};
@@ -104,9 +105,8 @@ pub fn find_used(
     counts: &[u64],
     used: &mut [bool],
 )
-    requires { PassReady states by_target.now.rows.pool.now accepting.now by_target.now.rows.words.now by_target.now.first.now
-        counts.now used.old }
-    ensures { FoundUsed states by_target.now.rows.pool.now accepting.now by_target.now.rows.words.now used.old used.new }
+    requires { PassReadyOf states by_target.now accepting.now counts.now used.old }
+    ensures { FoundUsedOf states by_target.now accepting.now used.old used.new }
 {
     let each = &counts[..states];
     let known = Counts {
@@ -212,10 +212,8 @@ fn settle_used(
     used: &mut [bool],
     sums: &mut [u64],
 ) -> Result<(), Refusal>
-    requires { SettleReady states by_target.now.rows.pool.now accepting.now by_target.now.rows.words.now by_target.now.first.now
-        counts.old marks.now used.old sums.old }
-    ensures { Settled true states by_target.now.rows.pool.now accepting.now by_target.now.rows.words.now counts.old
-        counts.new sums.old sums.new result }
+    requires { SettleReadyOf states by_target.now accepting.now counts.old marks.now used.old sums.old }
+    ensures { SettledOf true states by_target.now accepting.now counts.old counts.new sums.old sums.new result }
 {
     find_used(states, accepting, by_target, counts, used);
     first_fault(states, marks, used)?;
@@ -242,10 +240,8 @@ pub fn settle(
     used: &mut [bool],
     sums: &mut [u64],
 ) -> Result<(), Refusal>
-    requires { SettleReady states by_target.now.rows.pool.now accepting.now by_target.now.rows.words.now by_target.now.first.now
-        counts.old marks.now used.old sums.old }
-    ensures { Settled prepare states by_target.now.rows.pool.now accepting.now by_target.now.rows.words.now counts.old
-        counts.new sums.old sums.new result }
+    requires { SettleReadyOf states by_target.now accepting.now counts.old marks.now used.old sums.old }
+    ensures { SettledOf prepare states by_target.now accepting.now counts.old counts.new sums.old sums.new result }
 {
     if prepare || first_beyond(states, marks, 0).is_err() {
         settle_used(states, accepting, by_target, counts, marks, used, sums)?;
