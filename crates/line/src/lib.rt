@@ -131,7 +131,7 @@ fn put_number(n: u64, out: &mut [u8; LONGEST_LINE]) -> usize
 fn put_refusal(r: Refusal, out: &mut [u8; LONGEST_LINE]) -> usize
     ensures { Begins out.new (printed (refused_by r) decimal) result }
 {
-    let number = u64::from(model::kind_number(r.kind));
+    let number = u64::from(u32::from(r.kind));
     let place = r.place;
     let a = put_bytes(out, 0, b"refused ");
     let b = put_decimal(number, b' ', a, out);

@@ -41,6 +41,15 @@ pub enum Kind {
     ShortTextList = 24,
 }
 
+// Document 01's number of a kind of refusal.
+impl From<Kind> for u32 {
+    ghost from_gives = { λ k n. n ≡ kind_number k };
+
+    fn from(k: Kind) -> u32 {
+        k as u32
+    }
+}
+
 // A refusal: of which kind, and where.
 #[derive(Clone, Copy, PartialEq, Eq, Debug)]
 pub struct Refusal {
@@ -65,13 +74,6 @@ impl Refusal {
 // As it is printed: the word, document 01's number and the place.
 impl Display for Refusal {
     fn fmt<W: fmt::Write>(&self, f: &mut fmt::Formatter<W>) -> fmt::Result {
-        write!(f, "refused {} {}", kind_number(self.kind), self.place)
+        write!(f, "refused {} {}", u32::from(self.kind), self.place)
     }
-}
-
-// Document 01's number of a kind of refusal.
-pub fn kind_number(k: Kind) -> u32
-    ensures { result ≡ kind_number k }
-{
-    k as u32
 }

@@ -23,7 +23,7 @@ fn give(answer: Answer, value: &mut u64) -> u32
         }
         Err(r) => {
             *value = r.place;
-            model::kind_number(r.kind)
+            u32::from(r.kind)
         }
     }
 }

@@ -6,4 +6,4 @@ use Rattle.line.proofs.put_refusal.Goals as goal
 
 pub returns : goal.returns
 unfolding ascii
-returns c = refusal_put _ _ (search rules) c.put_bytes-a.ensures c.put_decimal-b.ensures.0 c.put_decimal-b.ensures.1 c.put_decimal.ensures.0 c.put_decimal.ensures.1 _ (c.from-number.ensures ∙ c.kind_number.ensures)
+returns c = refusal_put _ _ (search rules) c.put_bytes-a.ensures c.put_decimal-b.ensures.0 c.put_decimal-b.ensures.1 c.put_decimal.ensures.0 c.put_decimal.ensures.1 _ (c.from-number.ensures ∙ c.from.ensures)
