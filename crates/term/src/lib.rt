@@ -15,7 +15,7 @@ ghost use Rattle.term.specs.Pass.{Closing, Follows, unlisted_at, SymbolPut, Clea
 use model::{Answer, Kind, Refusal};
 use names::{NameLines, NamesList, NamesRoom, list_seed, stretch_at};
 use scan::scan_text;
-use tree::check_tree;
+use tree::{Step, check_tree};
 use words::{put_word, word_at};
 
 // A name that is due: its place, and how many brackets are open.
@@ -177,7 +177,10 @@ fn first_unnamed(tree: &[u16], n: usize) -> Option<usize>
 fn mark_after(e: u16) -> u8
     ensures { result ≡ mark_after e }
 {
-    if e == 0 { b',' } else { b'(' }
+    match Step::of(e) {
+        Step::Closes => b',',
+        Step::Opens => b'(',
+    }
 }
 
 // The name of a symbol.
