@@ -5,20 +5,13 @@ use mathlib.Core.Bool.{Bool, true, false}
 use mathlib.Core.List.{List, ◌++◌}
 use native.Mathlib.Omega.{arith}
 use lib.Dec.{ltb}
-use lib.ListN.{length, get_or, set, take, drop, length-append, length-drop, get_or-append}
+use lib.ListN.{length, get_or, take, drop, length-append, length-drop, get_or-append}
 use lib.Seq.{length-take-le, get_or-take, get_or-drop, get_or-append-add, ext_get_or}
 use borrow.Author.Tests.{ltb-true, ltb-false}
 use Rattle.words.specs.Words.{Word, WordPut}
 use Rattle.words.proofs.Reading.{Bytes}
-use Rattle.words.proofs.Placing.{placed_one, placed_as, placed_join, word_byte}
+use Rattle.words.proofs.Placing.{placed_as, placed_join, word_byte}
 use Rattle.term.specs.Written.{Put, Copied}
-
--- one byte more
-pub copied_one : (bytes : List ℕ) {old mid : List ℕ} {i : ℕ} → Copied i old mid 0 bytes → i < length mid → Copied (i + 1) old (set mid i (get_or bytes i 0)) 0 bytes
-copied_one bytes {old} {mid} {i} p h =
-    let z : i ≡ i + 0 = omega arith in
-    let front : 0 + i ≡ i = omega arith in
-    placed_join i 1 (omega arith) (omega arith) p (rw front (placed_one mid i (get_or bytes i 0) (λ k. get_or bytes (i + k) 0) h (ap (λ (k : ℕ). get_or bytes k 0) z)))
 
 -- a word of n bytes from place s on, which is not behind those that are copied
 pub copied_word : (bytes : List ℕ) {m : ℕ} {old mid new : List ℕ} (s n w : ℕ) → s ≤ m → m ≤ s + n → s + n ≤ length bytes → Bytes bytes

@@ -72,13 +72,6 @@ module _ (names : List ℕ) (mark e : ℕ) where
   unfolding entry_text
   letter_mark p q = rw (ne_eqb e 0 p, ne_eqb mark 0 q)
 
--- the separator after an entry, and that it is one
-mark_bar : (e : ℕ) → e ≡ 0 → mark_after e ≡ 44
-mark_bar e p = rw (eq-eqb e 0 p)
-
-mark_symbol : (e : ℕ) → (e ≡ 0 → ⊥) → mark_after e ≡ 40
-mark_symbol e p = rw (ne_eqb e 0 p)
-
 pub mark_some : (e : ℕ) → mark_after e ≡ 0 → ⊥
 mark_some e = go (eqb e 0)
   where
@@ -100,12 +93,6 @@ module _ (mark e : ℕ) where
   unfolding closing
   closing_name p = rw (ne_eqb e 0 p)
 
-pub closing_after : (before e : ℕ) → e ≡ 0 → before ≡ 0 → closing (mark_after before) e ≡ 1
-closing_after before e p q = closing_one (mark_after before) e p (mark_bar before q)
-
-pub closing_leaf : (before e : ℕ) → e ≡ 0 → (before ≡ 0 → ⊥) → closing (mark_after before) e ≡ 0
-closing_leaf before e p q = closing_none (mark_after before) e p (λ h. let m = mark_symbol before q in omega arith)
-
 -- after a separator an entry gives as many bytes as its line has, from its start to the next, and a bar none, or one where it closes
 module _ {names starts : List ℕ} {n : ℕ} (x : Lined names starts n) (e : ℕ) (few : e ≤ n) {next from : ℕ}
     (to : next ≡ get_or starts e 0) (begins : from ≡ get_or starts (e - 1) 0) where
@@ -119,13 +106,6 @@ module _ {names starts : List ℕ} {n : ℕ} (x : Lined names starts n) (e : ℕ
       let s = x.stands (e - 1) (omega arith) in
       let z = ap (λ (k : ℕ). get_or starts k 0) (let y : e ≡ e - 1 + 1 = omega arith in y) in
       (omega (arith, to, begins, z, s.ends), lines.name_short (line_at names (e - 1)).bytes s.named)
-
-  pub line_from : from ≤ next
-  line_from = go (eqb e 0) (eqb-true e 0) (eqb-false e 0)
-    where
-      go : (t : Bool) → (t ≡ true → e ≡ 0) → (t ≡ false → e ≡ 0 → ⊥) → from ≤ next
-      go true u v = omega (arith, line_bar (u refl))
-      go false u v = omega (arith, (line_name (v refl)).0)
 
   pub line_length : (mark : ℕ) → (mark ≡ 0 → ⊥) → {c : ℕ} → c ≡ closing mark e
       → (next - from + c ≡ length (entry_text names mark e)) × (next - from + c ≤ 25)

@@ -20,7 +20,7 @@ use Rattle.std.specs.List.{position, position_or_len}
 use Rattle.std.proofs.lemmas.List.Sums.{passes_at_first, fails_before_first}
 use Rattle.model.proofs.Choice.{no_fault, fault_refused, is_false, not_both}
 use Rattle.tree.specs.Reading.{Decides}
-use Rattle.tree.proofs.Laws.{list_refused, list_taken}
+use Rattle.tree.proofs.Laws.{list_refused}
 use Rattle.chains.specs.First.{first_with}
 use Rattle.chains.proofs.First.{first_is, first_at, none_first, first_none}
 use Rattle.scan.specs.TextState.{place_of, not_a_term_at}
@@ -41,16 +41,6 @@ pub gave_same : {o o' : Outcome} {written old new : List ℕ} {r : Result ℕ Re
 gave_same {o} {o'} {written} {old} e g = record { answer = g.answer ∙ e; list = g.list ∙ ap (λ (x : Outcome). lent_after x written old) e }
 
 -- ---- reading
-
--- 21, 22, and the result
-pub fits_long : (needed room : ℕ) → 4096 < needed → refused 21 0 ≡ fits_in 4096 needed room
-fits_long needed room l = rw (lt-ltb 4096 needed l)
-
-pub fits_short : (needed room : ℕ) → needed ≤ 4096 → room < needed → refused 22 needed ≡ fits_in 4096 needed room
-fits_short needed room h l = rw (le-ltb 4096 needed h, lt-ltb room needed l)
-
-pub fits_well : (needed room : ℕ) → needed ≤ 4096 → needed ≤ room → result needed ≡ fits_in 4096 needed room
-fits_well needed room h l = rw (le-ltb 4096 needed h, le-ltb room needed l)
 
 -- 19 before 20
 pub unlisted_breaks : (s : Scan) (r : Result (Unit {0}) Refusal) (place : ℕ) → r ≡ not_a_term_at (place_of s) → (e : Refusal) → r ≡ Err e → refused_by e ≡ unlisted_at s place
@@ -91,10 +81,6 @@ module _ {names text entries : List ℕ} {r : Result ℕ Refusal} (x : Passed na
 
   pub told_gave : (m : ℕ) → r ≡ Ok m → {old new : List ℕ} {a : Result ℕ Refusal} → Gave (fits_in 4096 m room) (take m entries) old new a → Gave (read_named 4096 names text room) (entries_of names text) old new a
   told_gave m e {old} g = gave_same (fits_by m e) (record { answer = g.answer; list = g.list ∙ same_list_lem m e old })
-
--- 18
-pub text_too_long : (names text : List ℕ) (room : ℕ) → 65536 < length text → refused 18 0 ≡ read_named 4096 names text room
-text_too_long names text room l = rw (lt-ltb 65536 (length text) l)
 
 -- 17, and what follows where the names list keeps to the rules
 module _ {A : Type 0} (names : List ℕ) {r : Result A Refusal} (decided : (o : Outcome) → names_check_then r o ≡ names_then names o) (o : Outcome) {written old : List ℕ} where
@@ -160,9 +146,6 @@ module _ (names tree : List ℕ) (n room : ℕ) (c : n ≡ how_many_names names)
 module _ {tree : List ℕ} {f : Result (Unit {0}) Refusal} (x : Decides tree f) (names : List ℕ) (room : ℕ) where
   pub not_a_tree : (r : Refusal) → f ≡ Err r → refused_by r ≡ write_named names tree room
   not_a_tree r e = list_refused x r e (write_formed names tree room)
-
-  pub a_tree : f ≡ Ok tt → write_formed names tree room ≡ write_named names tree room
-  a_tree e = list_taken x e (write_formed names tree room)
 
 pub write_told : {names tree old new : List ℕ} {r : Result ℕ Refusal} → Gave (names_then names (write_named names tree (length old))) (bytes_of names tree) old new r → WriteTerm names tree old new r
 unfolding write_term_outcome write_term_list

@@ -15,7 +15,7 @@ ghost use Rattle.term.specs.Pass.{Closing, Follows, unlisted_at, SymbolPut, Clea
 use model::{Answer, Kind, Refusal};
 use names::{NameLines, NamesList, NamesRoom, list_seed, stretch_at};
 use scan::scan_text;
-use tree::check_tree;
+use tree::{Step, check_tree};
 use words::{put_word, word_at};
 
 // A name that is due: its place, and how many brackets are open.
@@ -115,7 +115,8 @@ impl Entries {
 }
 
 // Reads the text, and adds the entries of its tree to none, or gives refusal 19 or 20.
-// What is looked up is the stretch of bytes from `-` to `z`: if it is listed it is a name, and if not the scan decides.
+// What is looked up is the stretch of bytes from `-` to `z`: if it is listed it is a name, and if not the scan decides. (The entries are lent cleared, and not
+// given back: as a result their 4 KB would be copied.)
 fn read_text(list: &NamesList, text: &[u8], entries: &mut Entries) -> Result<(), Refusal>
     requires short { length text.now ≤ 65536 }
     requires cleared { Cleared entries.old.kept × (entries.old.count ≡ 0) }
@@ -176,7 +177,10 @@ fn first_unnamed(tree: &[u16], n: usize) -> Option<usize>
 fn mark_after(e: u16) -> u8
     ensures { result ≡ mark_after e }
 {
-    if e == 0 { b',' } else { b'(' }
+    match Step::of(e) {
+        Step::Closes => b',',
+        Step::Opens => b'(',
+    }
 }
 
 // The name of a symbol.
@@ -211,9 +215,9 @@ fn closing_length(before: u16, e: u16) -> usize
 }
 
 // How many bytes an entry gives after another one. A line has one byte more than its name, where the text has the separator; a bar has no line.
-// (Not by a match, and not one function with `put_entry_text`, as a mark and a name that are counted or put: both tried. For terms of 255 names a match takes
-// 82 microseconds where this takes 66, and the mark and name 0.98 of plain Rust's time where these two take 0.74; the bar is 1.05 times the time before,
-// bench/README.md.)
+// (Not by a match, and what is counted in `first_length`, here and in `text_length` is not one struct, of a mark and a name, with what `put_first`,
+// `put_entry_text` and `put_text` put: both tried. Writing terms of 255 names, a match takes 82 microseconds where this takes 66, and such a struct 0.98 of
+// plain Rust's time where these take 0.74. The bar is 1.05 times the time before, bench/README.md.)
 fn entry_length(lines: &NameLines, before: u16, e: u16) -> usize
     requires { e ≤ lines.now.n }
     ensures { (result ≡ length (entry_text lines.now.names.now (mark_after before) e)) × (result ≤ 25) }
@@ -239,7 +243,8 @@ fn text_length(lines: &NameLines, tree: &[u16]) -> usize
 }
 
 // Puts bytes one by one over as many others, fewer than four. (No copy_from_slice: their number is not known when this is compiled, so it would call
-// memmove, and the archive needs memset alone.)
+// memmove, and the archive needs memset alone, README.md. By index: of a list whose places go through an adapter, as `iter_mut().zip(..)`, nothing is known
+// at its end.)
 fn put_few(to: &mut [u8], bytes: &[u8])
     requires { length to.old ≡ length bytes.now }
     ensures { to.new ≡ bytes.now }
@@ -249,7 +254,8 @@ fn put_few(to: &mut [u8], bytes: &[u8])
     }
 }
 
-// Puts bytes over as many others, N at a time; the last N may overlap those before them.
+// Puts bytes over as many others, N at a time; the last N may overlap those before them. (By place, and not by `chunks` and copy_from_slice: as at `put_few`,
+// the first through an adapter, the second by memmove. Here each N bytes are one load and one store.)
 fn put_words<const N: usize>(to: &mut [u8], bytes: &[u8])
     requires n_value { (0 < N) × (N ≤ 8) }
     requires same_len { length to.old ≡ length bytes.now }

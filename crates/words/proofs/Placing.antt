@@ -7,8 +7,8 @@ use native.Mathlib.Nat.{div-div-eq-div-mul, div-one, pow-succ'}
 use native.Mathlib.Omega.{arith}
 use lib.Arith.{digits_div, digits_mod}
 use lib.Dec.{ltb}
-use lib.ListN.{length, get_or, set, take, drop, length-set, length-drop, length-append}
-use lib.Seq.{length-take-le, get_or-take, get_or-drop, get_or-set_same, get_or-set_other}
+use lib.ListN.{length, get_or, take, drop, length-drop, length-append}
+use lib.Seq.{length-take-le, get_or-take, get_or-drop}
 use borrow.Author.Tests.{ltb-true, ltb-false}
 use borrow.Rule.Slice.PartMut.{put_mid}
 use Rattle.std.proofs.lemmas.List.{get_or-append_right, get_or_append_left}
@@ -16,18 +16,6 @@ use Rattle.std.specs.Int as Int
 use Rattle.std.specs.Int.{w64, bytes_low_first, to_le_bytes}
 use Rattle.words.specs.Words.{byte_at, packed, Word, Placed, WordPut}
 use Rattle.words.proofs.Reading.{Bytes, others, taken, dropped}
-
--- one entry
-pub placed_one : (l : List ℕ) (at x : ℕ) (f : ℕ → ℕ) → at < length l → x ≡ f 0 → Placed 1 l (set l at x) at f
-placed_one l at x f h e = record {
-  long = length-set l at x;
-  inside = λ k b.
-      let z : k ≡ 0 = omega arith in
-      let y : at + k ≡ at = omega arith in
-      ap (λ (i : ℕ). get_or (set l at x) i 0) y ∙ get_or-set_same l at x 0 h ∙ e ∙ sym (ap f z);
-  before = λ i b. get_or-set_other l at i x 0 (λ q. omega arith);
-  behind = λ i b. get_or-set_other l at i x 0 (λ q. omega arith);
-}
 
 -- the same entries, given otherwise
 pub placed_as : {n : ℕ} {old new : List ℕ} {at : ℕ} {f : ℕ → ℕ} → Placed n old new at f
