@@ -6,7 +6,7 @@ use native.Mathlib.Omega.{arith}
 use lib.ListN.{length, take, drop, length-append, take-append-drop}
 use lib.Seq.{length-take-le, take-add, take_all}
 use Rattle.model.specs.Paper.{paper_states, paper_rows, paper_accepting, paper_names}
-use Rattle.line.specs.Held.{Begins, part, held_after, put_for}
+use Rattle.line.specs.Held.{part, held_after, put_for}
 use Rattle.line.specs.Feeding.{Holds}
 use Rattle.line.specs.declared.Line.{Line}
 use Rattle.line.proofs.Output.{held_more, put_more}
@@ -76,10 +76,6 @@ module _ {bytes : List ℕ} {line₀ : Line} {log₀ : ℕ} {line : Line} {log i
 
   pub fills_last : length bytes ≤ i → (held : List ℕ) → Holds held line₀ → Holds (held_after held bytes) line × Logged log₀ log (writes (put_after held bytes))
   fills_last l held x = (rw (take_all i bytes l) at (f.holds held x), rw (take_all i bytes l) at (f.logged held x))
-
--- a list is written that begins with these bytes
-pub wrote_front : (before after : ℕ) {list bytes : List ℕ} (n : ℕ) (r : Result Unit Error) → Begins list bytes n → Wrote before after (take n list) r → Wrote before after bytes r
-wrote_front before after n r b w = rw b.front at w
 
 -- ---- one read
 

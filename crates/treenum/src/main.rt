@@ -5,14 +5,13 @@
 // `streams`, by one handle with its log, which `main` makes: no other crate that this one stands on reads or writes (tests/one_log).
 #![tactic(auto)]
 
-ghost use Rattle.std.specs.Prelude.{List, ℕ, ◌<◌, ◌≤◌, length};
+ghost use Rattle.std.specs.Prelude.{List, ℕ};
 ghost use Rattle.line.specs.Feeding.{Holds};
-ghost use Rattle.line.specs.Held.{longest_line, Begins, part};
 ghost use Rattle.streams.specs.Parts.{Wrote};
-ghost use Rattle.treenum.specs.Treenum.{printed_for, PrintsLine};
+ghost use Rattle.treenum.specs.Treenum.{printed_for};
 ghost use Rattle.treenum.specs.Run.{Feeds, Ran};
 
-use line::{Fed, LONGEST_LINE, Line, Lists};
+use line::{LONGEST_LINE, Line, Lists};
 use std::fmt::Display;
 use std::process::ExitCode;
 use std::{fmt, io};
@@ -40,10 +39,8 @@ const PAPER: Lists<'static> = Lists {
 // The most bytes of one read.
 const PART: usize = 16384;
 
-// What is to be printed is gathered here: room for so many bytes, and for one answer more.
+// The room of what is to be printed: so many bytes, and one answer more.
 const ROOM: usize = PART + LONGEST_LINE;
-
-type Out = [u8; ROOM];
 
 // Why a run ends before all is answered: a read failed; a write failed; or there were more reads than can be counted.
 #[derive(Clone, Copy, Debug)]
@@ -63,48 +60,35 @@ impl Display for Failure {
     }
 }
 
-// (`line` and `out` are lent apart: no struct of them lasts from call to call, as the list is empty at each read and where the input has ended, and
-// `last_line` and `finish` only read the line.)
-
-// Feeds the bytes from a place on, to the end of the bytes or until the list may have no room for one answer more; puts what is to be printed.
-fn gather(line: &mut Line, bytes: &[u8], from: usize, out: &mut Out) -> Fed
-    requires from_in_bounds { from < length bytes.now }
-    ensures from_lt_next { (from < result.next) × (result.next ≤ length bytes.now) }
-    ensures within { result.count ≤ length out.new }
-    ensures by_index { (held : List ℕ) → Holds held line.old
-        → PrintsLine held (part bytes.now from result.next) line.new out.new result.count }
-{
-    PAPER.gather(line, bytes, from, out)
+// A line so far, and the list in which what is to be printed is gathered.
+#[derive(Drop)]
+struct Answers {
+    line: Line,
+    out: [u8; ROOM],
 }
 
-// Puts what is to be printed where the input ends.
-fn last_line(line: &Line, out: &mut Out) -> usize
-    ensures within { result ≤ length out.new }
-    ensures begins { (held : List ℕ) → Holds held line.now → Begins out.new (printed_for held) result }
-{
-    PAPER.last_line(line, out)
-}
-
-// Feeds the bytes of a read, and writes what is to be printed.
-fn feed_all(line: &mut Line, bytes: &[u8], out: &mut Out, stdio: &mut Stdio) -> io::Result<()>
-    ensures { (held : List ℕ) → Holds held line.old
-        → Feeds held bytes.now result line.new stdio.old.log stdio.new.log }
-{
-    let mut i = 0;
-    while i < bytes.len() {
-        let fed = gather(line, bytes, i, out);
-        stdio.write_part(&out[..fed.count])?;
-        i = fed.next;
+impl Answers {
+    // Feeds the bytes of a read, and writes what is to be printed.
+    fn feed_all(&mut self, bytes: &[u8], stdio: &mut Stdio) -> io::Result<()>
+        ensures { (held : List ℕ) → Holds held self.old.line
+            → Feeds held bytes.now result self.new.line stdio.old.log stdio.new.log }
+    {
+        let mut i = 0;
+        while i < bytes.len() {
+            let fed = PAPER.gather(&mut self.line, bytes, i, &mut self.out);
+            stdio.write_part(&self.out[..fed.count])?;
+            i = fed.next;
+        }
+        Ok(())
     }
-    Ok(())
-}
 
-// Writes what is to be printed where the input ends.
-fn finish(line: &Line, out: &mut Out, stdio: &mut Stdio) -> io::Result<()>
-    ensures { (held : List ℕ) → Holds held line.now → Wrote stdio.old.log stdio.new.log (printed_for held) result }
-{
-    let n = last_line(line, out);
-    stdio.write_part(&out[..n])
+    // Writes what is to be printed where the input ends.
+    fn finish(&mut self, stdio: &mut Stdio) -> io::Result<()>
+        ensures { (held : List ℕ) → Holds held self.old.line → Wrote stdio.old.log stdio.new.log (printed_for held) result }
+    {
+        let n = PAPER.last_line(&self.line, &mut self.out);
+        stdio.write_part(&self.out[..n])
+    }
 }
 
 // The whole run: reads the input to its end, and writes what is to be printed for each part of it before the next read, unless a read or a write fails.
@@ -112,12 +96,16 @@ fn run(stdio: &mut Stdio) -> Result<(), Failure>
     ensures { Ran result stdio.old.log stdio.new.log }
 {
     let mut chunk = [0u8; PART];
-    let mut out: Out = [0; ROOM];
-    let mut line = Line::new();
+    let mut answers = Answers {
+        line: Line::new(),
+        out: [0; ROOM],
+    };
     for _ in 0..u64::MAX {
         match stdio.read_part(&mut chunk).map_err(Failure::Read)? {
-            Some(n) => feed_all(&mut line, &chunk[..n], &mut out, stdio).map_err(Failure::Write)?,
-            None => return finish(&line, &mut out, stdio).map_err(Failure::Write),
+            Some(n) => answers
+                .feed_all(&chunk[..n], stdio)
+                .map_err(Failure::Write)?,
+            None => return answers.finish(stdio).map_err(Failure::Write),
         }
     }
     Err(Failure::TooManyReads)

@@ -4,7 +4,7 @@ use Rattle.treenum.proofs.Laws.{was_ok, was_err, turned_on, turned_broke, turned
 use Rattle.treenum.proofs.run.Goals as goal
 
 pub loop-init : goal.loop-init
-loop-init c = so_far_first _ _ c.new-line.ensures
+loop-init c = so_far_first _ _ c.new.ensures
 
 pub returns-in_err-n : goal.returns-in_err-n
 returns-in_err-n c =
@@ -17,7 +17,7 @@ returns-in_err-map_err-in-Some c =
     let got : c.read_part.result ≡ Ok (Some c.in-Some.n) = was_ok _ _ _ _ (λ e q. q) c.in_ok-n.ensures.cases ∙ ap Ok c.in-Some.is in
     let fed = was_err c.feed_all.result c.in_err-map_err-in-Some.field-0.0 _ c.in_err-map_err-in-Some.ensures.cases in
     let t = so_far_stops c.loop.invariant _ (Err (Write fed.0))
-    (λ reads held x. turned_broke _ _ c.read_part.new.part c.in-Some.n (rw got at c.read_part.ensures) held c.feed_all.new.line _ fed.0 (rw fed.1 at (c.feed_all.ensures held x)) reads) in
+    (λ reads held x. turned_broke _ _ c.read_part.new.part c.in-Some.n (rw got at c.read_part.ensures) held c.feed_all.new.self.line _ fed.0 (rw fed.1 at (c.feed_all.ensures held x)) reads) in
     given_on _ _ (Write fed.0) t _ (rw fed.2 at c.from_residual-in_err-map_err-in-Some.ensures.1)
 
 pub returns-in-None : goal.returns-in-None
