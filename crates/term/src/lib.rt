@@ -177,7 +177,7 @@ fn first_unnamed(tree: &[u16], n: usize) -> Option<usize>
 fn mark_after(e: u16) -> u8
     ensures { result ≡ mark_after e }
 {
-    match Step::of(e) {
+    match Step::from(e) {
         Step::Closes => b',',
         Step::Opens => b'(',
     }
