@@ -47,8 +47,8 @@ impl From<Crowded> for TakeError {
 }
 
 // Whether two argument lists of one length are equal.
-// (Index by index: tried as `==` and as `zip` with `all`, and the tables whose rows share a bucket took 1.2 to 1.4 times the time before, where
-// bench/README.md's bar is 1.05.)
+// (Index by index: tried as `==` and as `zip` with `all`, and bench/README.md's table of equal polynomials took 1.2 to 1.4 times the time before; the bar
+// there is 1.05.)
 fn same(a: &[u16], b: &[u16]) -> bool
     requires { length a.now ≡ length b.now }
     ensures { result ≡ same_list a.now b.now }
