@@ -54,18 +54,18 @@ same_all {A} n a d = go (dec_le n a)
     go (no l) = get_or-replicate {A = A} n a d d (lt_of_not-le l)
 
 pub blank : {states : ℕ} {rows : List ℕ} (w h s : ℕ) → Room w (length rows) → (0 < h) × (h ≤ 65536) → (states ≤ 256 → states ≤ s)
-    → Blank states rows (replicate w 0) (replicate h 0) (replicate s 0) (replicate s 0) (replicate s 0) (replicate s false) (replicate w 0)
+    → Blank states rows (replicate w 0) (replicate h 0) (replicate s 0) (replicate s 0) (replicate s 0) (replicate s 0) (replicate w 0)
 blank {states} {rows} w h s room sized few = record {
   room = rw (length-replicate {A = ℕ} w 0) room;
   sized = rw (length-replicate {A = ℕ} h 0) sized;
   heads_empty = λ b l. get_or-replicate {A = ℕ} h b 0 0 (rw (length-replicate {A = ℕ} h 0) at l);
   first_empty = λ q l. get_or-replicate {A = ℕ} s q 0 0 (rw (length-replicate {A = ℕ} s 0) at l);
   uncounted = λ a. same_all s a 0;
-  unmarked = λ a. same_all s a false;
+  unmarked = λ a. same_all s a 0;
   first_room = λ l. rw (length-replicate {A = ℕ} s 0) (few l);
   counts_room = λ l. rw (length-replicate {A = ℕ} s 0) (few l);
   marks_room = λ l. rw (length-replicate {A = ℕ} s 0) (few l);
-  used_room = λ l. rw (length-replicate {A = Bool} s false) (few l);
+  used_room = λ l. rw (length-replicate {A = ℕ} s 0) (few l);
   sums_room = omega arith;
 }
 

@@ -62,7 +62,7 @@ fn answer_in<'a, const ROWS: usize, const STATES: usize, const HEADS: usize>(
     let mut first = [0u16; STATES];
     let mut counts = [0u64; STATES];
     let mut marks = [0u64; STATES];
-    let mut used = [false; STATES];
+    let mut used = [0u8; STATES];
     let mut sums = [0u64; ROWS];
     let checked = table::check_into(
         prepares(task),

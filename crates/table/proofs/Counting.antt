@@ -40,7 +40,7 @@ total_told None n r i e = e ∙ total_over i
 
 -- ---- the rows chained, the states counted and held to the limits, the total
 
-module _ {states : ℕ} {pool words accepting first counts marks : List ℕ} {used : List Bool} {sums : List ℕ} (s : StatesReady states pool words accepting first counts marks used sums) where
+module _ {states : ℕ} {pool words accepting first counts marks : List ℕ} {used : List ℕ} {sums : List ℕ} (s : StatesReady states pool words accepting first counts marks used sums) where
   module _ {words' first' : List ℕ} (x : ChainedRows pool words first words' first') where
     pub count_ready : CountReady states (rows_in pool words') first' counts marks sums
     count_ready = record {

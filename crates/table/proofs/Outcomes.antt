@@ -90,7 +90,7 @@ module _ (accepting words : List ℕ) (n : ℕ) {by states : ℕ} {rows heads : 
   rows_fine = rw x.all at x.fine
 
   module _ (entries_fine : AllFine (length accepting) (accepting_ground states accepting)) where
-    pub states_ready : {heads₀ words₀ first counts marks : List ℕ} {used : List Bool} {sums : List ℕ} → Blank states rows words₀ heads₀ first counts marks used sums → n ≤ length words₀
+    pub states_ready : {heads₀ words₀ first counts marks : List ℕ} {used : List ℕ} {sums : List ℕ} → Blank states rows words₀ heads₀ first counts marks used sums → n ≤ length words₀
         → StatesReady states rows (take n words) accepting first counts marks used sums
     states_ready b le = record {
       rows_held = rw x.long x.held;

@@ -48,14 +48,14 @@ total_or11 n = if ltb count_limit n then refused 11 0 else result n
 
 -- what checking the states starts from: rows in order, an accepting list of states, and arrays with a place for each state and each row; nothing is
 -- counted, chained or marked yet
-pub record StatesReady (states : ℕ) (pool words accepting first counts marks : List ℕ) (used : List Bool) (sums : List ℕ) : Type 0 where
+pub record StatesReady (states : ℕ) (pool words accepting first counts marks : List ℕ) (used : List ℕ) (sums : List ℕ) : Type 0 where
   pub rows_held : Held pool words (length words)
   pub ordered : InOrder states (rows_in pool words)
   pub unchained : Unchained first (afters words)
   pub room : CountRoom states (rows_in pool words) first counts marks sums
   pub used_room : states ≤ length used
   pub uncounted : (a : ℕ) → get_or counts a 0 ≡ 0
-  pub unmarked : (a : ℕ) → get_or used a false ≡ false
+  pub unmarked : (a : ℕ) → get_or used a 0 ≡ 0
   pub listed : (i : ℕ) → i < length accepting → get_or accepting i 0 < states
 
 -- what it leaves where none is faulty: rows that are chained by target; counts, and sums of rows, of used states if it is to prepare for numbering,
@@ -82,13 +82,13 @@ told (Ok k) = result k.total
 told (Err f) = refused_by f
 
 -- empty buckets, no chains, counts and marks yet, room for the words of the rows, and a place for each state and each word
-pub record Blank (states : ℕ) (rows words heads first counts marks : List ℕ) (used : List Bool) (sums : List ℕ) : Type 0 where
+pub record Blank (states : ℕ) (rows words heads first counts marks : List ℕ) (used : List ℕ) (sums : List ℕ) : Type 0 where
   pub room : Room (length words) (length rows)
   pub sized : Sized (length heads)
   pub heads_empty : Empty heads
   pub first_empty : Empty first
   pub uncounted : (a : ℕ) → get_or counts a 0 ≡ 0
-  pub unmarked : (a : ℕ) → get_or used a false ≡ false
+  pub unmarked : (a : ℕ) → get_or used a 0 ≡ 0
   pub first_room : states ≤ 256 → states ≤ length first
   pub counts_room : states ≤ 256 → states ≤ length counts
   pub marks_room : states ≤ 256 → states ≤ length marks

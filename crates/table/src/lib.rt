@@ -119,7 +119,7 @@ fn check_states(
     first: &mut [u16],
     counts: &mut [u64],
     marks: &mut [u64],
-    used: &mut [bool],
+    used: &mut [u8],
     sums: &mut [u64],
 ) -> Answer
     requires { StatesReady states pool.now words.old accepting.now first.old counts.old marks.old used.old sums.old }
@@ -150,7 +150,7 @@ pub fn check_into(
     first: &mut [u16],
     counts: &mut [u64],
     marks: &mut [u64],
-    used: &mut [bool],
+    used: &mut [u8],
     sums: &mut [u64],
 ) -> Result<Checked, Refusal>
     requires { Blank states rows.now words.old heads.old first.old counts.old marks.old used.old sums.old }

@@ -119,10 +119,10 @@ module _ (states : ℕ) (ms : List ℕ) (from : ℕ) where
 -- ---- the used states in turn
 
 -- no used state before q is beyond a limit
-pub record NoneBefore (states : ℕ) (ms : List ℕ) (used : List Bool) (q : ℕ) : Type 0 where
+pub record NoneBefore (states : ℕ) (ms : List ℕ) (used : List ℕ) (q : ℕ) : Type 0 where
   pub fine : (T : Table) → T.states ≡ states → Measures T ms → ((a : ℕ) → is_set used a ≡ is_used T a) → AllFine q (state_ground count_limit T)
 
-module _ (states : ℕ) (ms : List ℕ) (used : List Bool) where
+module _ (states : ℕ) (ms : List ℕ) (used : List ℕ) where
   pub none_begins : NoneBefore states ms used 0
   none_begins = record { fine = λ T s m u a l. absurd (omega arith) }
 

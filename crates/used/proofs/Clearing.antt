@@ -98,7 +98,7 @@ emptying_ends {words} {p = p} x z =
 -- ---- the states in turn
 
 -- the states before q are cleared where they have no mark
-pub record Clearing (states : ℕ) (words : List ℕ) (used : List Bool) (cs₀ cs ss₀ ss : List ℕ) (q : ℕ) : Type 0 where
+pub record Clearing (states : ℕ) (words : List ℕ) (used : List ℕ) (cs₀ cs ss₀ ss : List ℕ) (q : ℕ) : Type 0 where
   pub within : q ≤ states
   pub cs_long : length cs ≡ length cs₀
   pub sums_long : length ss ≡ length ss₀
@@ -107,7 +107,7 @@ pub record Clearing (states : ℕ) (words : List ℕ) (used : List Bool) (cs₀ 
   pub sums : (k : ℕ) → k < length words → target_at words k < q → get_or ss k 0 ≡ (if is_set used (target_at words k) then get_or ss₀ k 0 else 0)
   pub later_sums : (k : ℕ) → k < length words → q ≤ target_at words k → get_or ss k 0 ≡ get_or ss₀ k 0
 
-module _ {states : ℕ} {words first : List ℕ} {used : List Bool} {cs₀ ss₀ : List ℕ} (g : ClearReady states words first used cs₀ ss₀) where
+module _ {states : ℕ} {words first : List ℕ} {used : List ℕ} {cs₀ ss₀ : List ℕ} (g : ClearReady states words first used cs₀ ss₀) where
   module _ {cs ss : List ℕ} {q : ℕ} (x : Clearing states words used cs₀ cs ss₀ ss q) where
     pub clearing_ends : states ≤ q → Cleared states words used cs₀ cs ss₀ ss
     clearing_ends le = record {

@@ -71,16 +71,23 @@ names_all xs i q a b = same_test (names xs i q) (is_among q xs)
     (λ e. let p = any_some i (λ j. eqb (get_or xs j 0) q) e in place_among q p.0 xs (omega (arith, p.1)) (eqb-true (get_or xs p.0 0) q p.2))
     (λ e. let p = among_place q xs e in any_true i p.0 (λ j. eqb (get_or xs j 0) q) (omega (arith, p.1)) (eq-eqb (get_or xs p.0 0) q p.2))
 
-pub set_mark : (used : List Bool) (a q : ℕ) → a < length used → is_set (set used a true) q ≡ (is_set used q || eqb a q)
+-- any number but 0 is a mark
+pub is_marked : {x : ℕ} → (x ≡ 0 → ⊥) → ltb 0 x ≡ true
+is_marked {x} n = lt-ltb 0 x (pos_of_ne-zero n)
+
+pub not_marked : {x : ℕ} → x ≡ 0 → ltb 0 x ≡ false
+not_marked e = ap (ltb 0) e
+
+pub set_mark : (used : List ℕ) (a q : ℕ) → a < length used → is_set (set used a 1) q ≡ (is_set used q || eqb a q)
 set_mark used a q l = go (eqb a q) (eqb-true a q) (eqb-false a q)
   where
     yes_or : (b : Bool) → (b || true) ≡ true
     yes_or true = refl
     yes_or false = refl
 
-    go : (b : Bool) → (b ≡ true → a ≡ q) → (b ≡ false → a ≡ q → ⊥) → is_set (set used a true) q ≡ (is_set used q || b)
-    go true y n = ap (is_set (set used a true)) (sym (y refl)) ∙ get_or-set_same used a true false l ∙ sym (yes_or (is_set used q))
-    go false y n = get_or-set_other used a q true false (λ e. n refl (sym e)) ∙ or_none (is_set used q)
+    go : (b : Bool) → (b ≡ true → a ≡ q) → (b ≡ false → a ≡ q → ⊥) → is_set (set used a 1) q ≡ (is_set used q || b)
+    go true y n = ap (is_set (set used a 1)) (sym (y refl)) ∙ ap (ltb 0) (get_or-set_same used a 1 0 l) ∙ sym (yes_or (is_set used q))
+    go false y n = ap (ltb 0) (get_or-set_other used a q 1 0 (λ e. n refl (sym e))) ∙ or_none (is_set used q)
 
 -- ---- the listed states that pass a test, marked in turn
 
@@ -89,7 +96,7 @@ module _ (xs : List ℕ) (t : ℕ → Bool) where
   abbrev pub picked : (i q : ℕ) → Bool
   picked i q = t q && names xs i q
 
-  pub picks_begin : (used : List Bool) → MarkedToo (picked 0) used used
+  pub picks_begin : (used : List ℕ) → MarkedToo (picked 0) used used
   unfolding any_below
   picks_begin used = record { long = refl; each = λ q. or_none (is_set used q) ∙ ap (λ (b : Bool). is_set used q || b) (none (t q)) }
     where
@@ -97,14 +104,14 @@ module _ (xs : List ℕ) (t : ℕ → Bool) where
       none true = refl
       none false = refl
 
-  module _ (old used : List Bool) (i a : ℕ) (e : a ≡ get_or xs i 0) (m : MarkedToo (picked i) old used) where
+  module _ (old used : List ℕ) (i a : ℕ) (e : a ≡ get_or xs i 0) (m : MarkedToo (picked i) old used) where
     -- the entry passes
-    pub picks_go : t a ≡ true → a < length old → MarkedToo (picked (i + 1)) old (set used a true)
+    pub picks_go : t a ≡ true → a < length old → MarkedToo (picked (i + 1)) old (set used a 1)
     unfolding any_below
     picks_go y l =
         rw (add-one i)
         (record {
-          long = length-set used a true ∙ m.long;
+          long = length-set used a 1 ∙ m.long;
           each = λ q.
               set_mark used a q (omega (arith, m.long))
               ∙ ap (λ (b : Bool). b || eqb a q) (m.each q)
@@ -138,7 +145,7 @@ module _ (xs : List ℕ) (t : ℕ → Bool) where
         here q false z = ap (λ (b : Bool). t q && b) (or_none (names xs i q))
         here q true z = let f : t q ≡ false = ap t (sym (e ∙ z refl)) ∙ n in rw f
 
-  pub picks_end : (old used : List Bool) (i : ℕ) → i ≤ length xs → length xs ≤ i → MarkedToo (picked i) old used → MarkedToo (λ q. t q && is_among q xs) old used
+  pub picks_end : (old used : List ℕ) (i : ℕ) → i ≤ length xs → length xs ≤ i → MarkedToo (picked i) old used → MarkedToo (λ q. t q && is_among q xs) old used
   picks_end old used i a b m = record { long = m.long; each = λ q. m.each q ∙ ap (λ (x : Bool). is_set old q || (t q && x)) (names_all xs i q a b) }
 
 -- those that have trees
@@ -146,18 +153,18 @@ abbrev pub some : List ℕ → ℕ → Bool
 some cs q = ltb 0 (held cs q)
 
 module _ (accepting cs : List ℕ) where
-  module _ (old used : List Bool) (i a : ℕ) where
+  module _ (old used : List ℕ) (i a : ℕ) where
     pub listed_skip : a ≡ get_or accepting i 0 → get_or cs a 0 ≡ 0 → MarkedToo (picked accepting (some cs) i) old used → MarkedToo (picked accepting (some cs) (i + 1)) old used
     listed_skip e z m = picks_skip accepting (some cs) old used i a e m (ap (ltb 0) z)
 
     pub listed_go : a ≡ get_or accepting i 0 → a < length old → (get_or cs a 0 ≡ 0 → ⊥) → MarkedToo (picked accepting (some cs) i) old used
-        → MarkedToo (picked accepting (some cs) (i + 1)) old (set used a true)
+        → MarkedToo (picked accepting (some cs) (i + 1)) old (set used a 1)
     listed_go e l z m = picks_go accepting (some cs) old used i a e m (lt-ltb 0 (get_or cs a 0) (pos_of_ne-zero z)) l
 
 -- ---- the state that is next to mark
 
 -- the states from `low` on and before the next one are passed, all up to m where there is none
-module _ (cs : List ℕ) (used : List Bool) (low m : ℕ) (g : PassedBy cs used low m) where
+module _ (cs : List ℕ) (used : List ℕ) (low m : ℕ) (g : PassedBy cs used low m) where
   abbrev pub Passes : ℕ → Type 0
   Passes k = 0 < held cs k → is_set used k ≡ true
 

@@ -88,7 +88,7 @@ named_low states rows order cs k a le = any_none (length rows) (named_row rows c
 -- ---- the pass
 
 -- what the loop holds when the states from m on have had their turns
-pub record Passing (states : ℕ) (pool accepting words cs : List ℕ) (begun used : List Bool) (m n : ℕ) : Type 0 where
+pub record Passing (states : ℕ) (pool accepting words cs : List ℕ) (begun used : List ℕ) (m n : ℕ) : Type 0 where
   pub low : m ≤ states
   pub long : length used ≡ length begun
   pub each : (a : ℕ) → is_set used a ≡ used_since (held_table states pool words accepting) (held cs) (is_set used) m a
@@ -96,7 +96,7 @@ pub record Passing (states : ℕ) (pool accepting words cs : List ℕ) (begun us
   pub below : n ≤ m
 
 -- the counts of the states alone will do: what is no state counts 0
-pub of_states : {states : ℕ} {pool accepting words first cs : List ℕ} {used : List Bool} → PassReady states pool accepting words first cs used
+pub of_states : {states : ℕ} {pool accepting words first cs : List ℕ} {used : List ℕ} → PassReady states pool accepting words first cs used
     → PassReady states pool accepting words first (take states cs) used
 of_states {states} {pool} {accepting} {words} {cs = cs} g = record {
   ordered = g.ordered;
@@ -118,14 +118,14 @@ of_states {states} {pool} {accepting} {words} {cs = cs} g = record {
     go a (yes l) = ap (ltb 0) (get_or-eq_default (take states cs) 0 (omega (arith, whole)) ∙ sym (count_beyond T a l))
     go a (no h) = ap (ltb 0) (get_or-take states cs a 0 (omega arith)) ∙ g.alike a
 
-module _ {states : ℕ} {pool accepting words first cs : List ℕ} {used₀ : List Bool} (g : PassReady states pool accepting words first cs used₀) where
+module _ {states : ℕ} {pool accepting words first cs : List ℕ} {used₀ : List ℕ} (g : PassReady states pool accepting words first cs used₀) where
   abbrev T : Table
   T = held_table states pool words accepting
 
   abbrev rows : List Row
   rows = rows_in pool words
 
-  pub passing_begins : (used : List Bool) (n : ℕ) → MarkedToo (listed_by accepting cs) used₀ used → AllMarked cs used n × (n ≤ states) → Passing states pool accepting words cs used used states n
+  pub passing_begins : (used : List ℕ) (n : ℕ) → MarkedToo (listed_by accepting cs) used₀ used → AllMarked cs used n × (n ≤ states) → Passing states pool accepting words cs used used states n
   passing_begins used n m s = record {
     low = omega arith;
     long = refl;
@@ -137,7 +137,7 @@ module _ {states : ℕ} {pool accepting words first cs : List ℕ} {used₀ : Li
     below = s.1;
   }
 
-  module _ {begun used : List Bool} {m n : ℕ} (b : MarkedToo (listed_by accepting cs) used₀ begun) (x : Passing states pool accepting words cs begun used m n) where
+  module _ {begun used : List ℕ} {m n : ℕ} (b : MarkedToo (listed_by accepting cs) used₀ begun) (x : Passing states pool accepting words cs begun used m n) where
     pub turn_ready : n < m → TurnReady rows first cs used n (m - 1)
     turn_ready l = record {
       lower = λ r i e. record { placed = λ k j. omega (arith, g.ordered.lower r i k j, e) };
@@ -149,7 +149,7 @@ module _ {states : ℕ} {pool accepting words first cs : List ℕ} {used₀ : Li
     since_before l u a = let e : m ≡ suc (m - 1) = omega arith in ap (λ (k : ℕ). used_since T (held cs) u k a) e
 
     -- a used state's turn
-    pub passing_goes : n < m → (used' : List Bool) (n' : ℕ) → is_set used (m - 1) ≡ true → Turned rows cs (m - 1) used used' n' → Passing states pool accepting words cs begun used' (m - 1) n'
+    pub passing_goes : n < m → (used' : List ℕ) (n' : ℕ) → is_set used (m - 1) ≡ true → Turned rows cs (m - 1) used used' n' → Passing states pool accepting words cs begun used' (m - 1) n'
     passing_goes l used' n' y t = record {
       low = omega (arith, x.low);
       long = t.marked.long ∙ x.long;

@@ -38,7 +38,7 @@ use Rattle.used.proofs.Beyond.{ground_fine}
 
 -- ---- what is held when used states are held to the limits
 
-module _ {states : ℕ} {pool accepting words first cs ms : List ℕ} {used₀ : List Bool} {ss : List ℕ} (g : SettleReady states pool accepting words first cs ms used₀ ss) where
+module _ {states : ℕ} {pool accepting words first cs ms : List ℕ} {used₀ : List ℕ} {ss : List ℕ} (g : SettleReady states pool accepting words first cs ms used₀ ss) where
   abbrev T : Table
   T = held_table states pool words accepting
 
@@ -113,7 +113,7 @@ module _ {states : ℕ} {pool accepting words first cs ms : List ℕ} {used₀ :
 
   -- ---- the used states are found
 
-  module _ {used : List Bool} (u : FoundUsed states pool accepting words used₀ used) where
+  module _ {used : List ℕ} (u : FoundUsed states pool accepting words used₀ used) where
     pub clear_ready : Chained (rows_in pool words) first (afters words) → ClearReady states words first used cs ss
     clear_ready ch = record {
       pool = pool;

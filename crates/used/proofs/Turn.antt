@@ -58,7 +58,7 @@ factor_some c (x ∷ xs) (suc k) l p = factor_some c xs k (omega arith) (go (eq-
     go (inr y) = y
 
 -- where a row counts more than 0 each of its arguments has trees
-pub row_marked : (cs args : List ℕ) {old new : List Bool} → ltb 0 (product (map (held cs) args)) ≡ true → MarkedToo (listed_by args cs) old new → MarkedToo (row_names cs args) old new
+pub row_marked : (cs args : List ℕ) {old new : List ℕ} → ltb 0 (product (map (held cs) args)) ≡ true → MarkedToo (listed_by args cs) old new → MarkedToo (row_names cs args) old new
 row_marked cs args {old} t m = record { long = m.long; each = λ q. m.each q ∙ ap (λ (b : Bool). is_set old q || b) (same_test (listed_by args cs q) (row_names cs args q) (to q) (from q)) }
   where
     to : (q : ℕ) → listed_by args cs q ≡ true → row_names cs args q ≡ true
@@ -73,7 +73,7 @@ row_marked cs args {old} t m = record { long = m.long; each = λ q. m.each q ∙
 
 -- ---- the rows before the one that the link leads to are taken, and the states below n that have trees are marked
 
-pub record Taking (rows : List Row) (cs : List ℕ) (q : ℕ) (old used : List Bool) (n p : ℕ) : Type 0 where
+pub record Taking (rows : List Row) (cs : List ℕ) (q : ℕ) (old used : List ℕ) (n p : ℕ) : Type 0 where
   pub at_row : AtRow rows q p
   pub marked : MarkedToo (λ a. any_below (leads p (length rows)) (named_row rows cs q a)) old used
   pub passed : AllMarked cs used n
@@ -86,7 +86,7 @@ module _ (rows : List Row) (cs : List ℕ) (q : ℕ) where
       none : (k : ℕ) → i ≤ k → k < leads p (length rows) → named_row rows cs q a k ≡ false
       none k l m = rw (ne_eqb (target rows k) q (t.gap k l m))
 
-  taking_begins : (used : List Bool) (n p : ℕ) → AllMarked cs used n → n ≤ q → TargetLink rows q 0 (length rows) p → Taking rows cs q used used n p
+  taking_begins : (used : List ℕ) (n p : ℕ) → AllMarked cs used n → n ≤ q → TargetLink rows q 0 (length rows) p → Taking rows cs q used used n p
   taking_begins used n p s l t = record {
     at_row = at_link p t;
     marked = record { long = refl; each = λ a. or_none (is_set used a) ∙ ap (λ (b : Bool). is_set used a || b) (sym (skip 0 p a t ∙ any_zero (named_row rows cs q a))) };
@@ -94,7 +94,7 @@ module _ (rows : List Row) (cs : List ℕ) (q : ℕ) where
     low = l;
   }
 
-  taking_goes : (old used used' : List Bool) (n n' p r p' : ℕ) → Taking rows cs q old used n p → (1 ≤ p) × (r ≡ p - 1) → MarkedToo (row_names cs (row_no rows r).args) used used'
+  taking_goes : (old used used' : List ℕ) (n n' p r p' : ℕ) → Taking rows cs q old used n p → (1 ≤ p) × (r ≡ p - 1) → MarkedToo (row_names cs (row_no rows r).args) used used'
       → AllMarked cs used' n' → n' ≤ q → TargetLink rows q (suc r) (length rows) p' → Taking rows cs q old used' n' p'
   taking_goes old used used' n n' p r p' x l m s le t = record {
     at_row = at_link p' t;
@@ -112,7 +112,7 @@ module _ (rows : List Row) (cs : List ℕ) (q : ℕ) where
     low = le;
   }
 
-  pub taking_ends : (old used : List Bool) (n p : ℕ) → Taking rows cs q old used n p → p ≡ 0 → Turned rows cs q old used n
+  pub taking_ends : (old used : List ℕ) (n p : ℕ) → Taking rows cs q old used n p → p ≡ 0 → Turned rows cs q old used n
   taking_ends old used n p x z =
       record {
         marked = record { long = x.marked.long; each = λ a. x.marked.each a ∙ ap (λ (k : ℕ). is_set old a || any_below k (named_row rows cs q a)) (ap (λ (k : ℕ). leads k (length rows)) z ∙ leads_end (length rows)) };
@@ -134,7 +134,7 @@ module _ (rows : List Row) (cs : List ℕ) (q : ℕ) where
         rw (← z.2) (factor_some (held cs) (row_no rows r).args z.0 z.1 (ltb-true 0 (product (map (held cs) (row_no rows r).args)) y.1)),
       )
 
-  pub turn_enough : (old used : List Bool) (n p : ℕ) → ((r : ℕ) → r < length rows → target rows r ≡ q → Placed q (row_no rows r).args)
+  pub turn_enough : (old used : List ℕ) (n p : ℕ) → ((r : ℕ) → r < length rows → target rows r ≡ q → Placed q (row_no rows r).args)
       → Taking rows cs q old used n p → q ≤ n → Turned rows cs q old used n
   turn_enough old used n p lower t le =
       record {
@@ -161,7 +161,7 @@ module _ (rows : List Row) (cs : List ℕ) (q : ℕ) where
 
 -- ---- as the code has it
 
-module _ (pool words : List ℕ) {first cs : List ℕ} {old : List Bool} {low q : ℕ}
+module _ (pool words : List ℕ) {first cs : List ℕ} {old : List ℕ} {low q : ℕ}
     (chained : Chained (rows_in pool words) first (afters words)) (g : TurnReady (rows_in pool words) first cs old low q) where
   abbrev rows : List Row
   rows = rows_in pool words
@@ -169,7 +169,7 @@ module _ (pool words : List ℕ) {first cs : List ℕ} {old : List Bool} {low q 
   pub turn_begins : (p : ℕ) → p ≡ get_or first q 0 → Taking rows cs q old old low p
   turn_begins p e = taking_begins rows cs q old low p g.passed.passed g.passed.low (rw e (chained.firsts q g.state))
 
-  module _ {used : List Bool} {n p : ℕ} (x : Taking rows cs q old used n p) where
+  module _ {used : List ℕ} {n p : ℕ} (x : Taking rows cs q old used n p) where
     pub turn_stops : q ≤ n → Turned rows cs q old used n
     turn_stops le = turn_enough rows cs q old used n p g.lower x le
 
@@ -187,6 +187,6 @@ module _ (pool words : List ℕ) {first cs : List ℕ} {old : List Bool} {low q 
           marked = record { placed = λ k l. omega (arith, placed.placed k l, g.passed.room, x.marked.long) };
         }
 
-        module _ (used' : List Bool) (m : MarkedToo (row_names cs args) used used') where
+        module _ (used' : List ℕ) (m : MarkedToo (row_names cs args) used used') where
           pub turn_goes : (n' : ℕ) → AllMarked cs used' n' × (n' ≤ q) → Taking rows cs q old used' n' p'
           turn_goes n' s = taking_goes rows cs q old used used' n n' p r p' x g'.here (rw same at m) s.0 s.1 (link_next pool words chained x.at_row g')

@@ -5,13 +5,13 @@ use Rattle.counts.specs.declared.ByTarget.{ByTarget}
 use Rattle.used.specs.Marked.{PassReady, FoundUsed}
 use Rattle.used.specs.Settled.{SettleReady, Settled}
 
-abbrev pub PassReadyOf : (states : ℕ) (by_target : ByTarget) (accepting cs : List ℕ) (used : List Bool) → Type 0
+abbrev pub PassReadyOf : (states : ℕ) (by_target : ByTarget) (accepting cs : List ℕ) (used : List ℕ) → Type 0
 PassReadyOf states b accepting cs used = PassReady states b.rows.pool.now accepting b.rows.words.now b.first.now cs used
 
-abbrev pub FoundUsedOf : (states : ℕ) (by_target : ByTarget) (accepting : List ℕ) (used₀ used : List Bool) → Type 0
+abbrev pub FoundUsedOf : (states : ℕ) (by_target : ByTarget) (accepting : List ℕ) (used₀ used : List ℕ) → Type 0
 FoundUsedOf states b accepting used₀ used = FoundUsed states b.rows.pool.now accepting b.rows.words.now used₀ used
 
-abbrev pub SettleReadyOf : (states : ℕ) (by_target : ByTarget) (accepting cs ms : List ℕ) (used : List Bool) (sums : List ℕ) → Type 0
+abbrev pub SettleReadyOf : (states : ℕ) (by_target : ByTarget) (accepting cs ms : List ℕ) (used : List ℕ) (sums : List ℕ) → Type 0
 SettleReadyOf states b accepting cs ms used sums = SettleReady states b.rows.pool.now accepting b.rows.words.now b.first.now cs ms used sums
 
 abbrev pub SettledOf : (prepare : Bool) (states : ℕ) (by_target : ByTarget) (accepting cs₀ cs sums₀ sums : List ℕ) (r : Result (Unit {0}) Refusal) → Type 0

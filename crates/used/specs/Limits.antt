@@ -42,7 +42,7 @@ pub record BeyondFrom (states : ℕ) (ms : List ℕ) (from : ℕ) (r : Result (U
   pub none : (T : Table) → T.states ≡ states → Measures T ms → r ≡ Ok tt → FineFrom T from states
 
 -- what the first used state beyond a limit is looked for in
-pub record FaultReady (states : ℕ) (ms : List ℕ) (used : List Bool) : Type 0 where
+pub record FaultReady (states : ℕ) (ms : List ℕ) (used : List ℕ) : Type 0 where
   pub room : states ≤ length ms
   pub used_room : states ≤ length used
 
@@ -52,5 +52,5 @@ pub record FaultFound (n : ℕ) (ground_of : ℕ → ℕ) (r : Result (Unit {0})
   pub fine : r ≡ Ok tt → AllFine n ground_of
 
 -- of every table whose marks and used states these are: the first used state that is beyond a limit, or there is none
-pub record FirstUsed (states : ℕ) (ms : List ℕ) (used : List Bool) (r : Result (Unit {0}) Refusal) : Type 0 where
+pub record FirstUsed (states : ℕ) (ms : List ℕ) (used : List ℕ) (r : Result (Unit {0}) Refusal) : Type 0 where
   pub found : (T : Table) → T.states ≡ states → Measures T ms → ((q : ℕ) → is_set used q ≡ is_used T q) → FaultFound states (state_ground count_limit T) r

@@ -29,7 +29,7 @@ pub record RowsCleared (words : List ℕ) (q : ℕ) (sums₀ sums : List ℕ) : 
   pub others : (k : ℕ) → (target_at words k ≡ q → ⊥) → get_or sums k 0 ≡ get_or sums₀ k 0
 
 -- what unused states are cleared from
-pub record ClearReady (states : ℕ) (words first : List ℕ) (used : List Bool) (cs sums : List ℕ) : Type 0 where
+pub record ClearReady (states : ℕ) (words first : List ℕ) (used : List ℕ) (cs sums : List ℕ) : Type 0 where
   pub pool : List ℕ
   pub ordered : InOrder states (rows_in pool words)
   pub chained : Chained (rows_in pool words) first (afters words)
@@ -39,7 +39,7 @@ pub record ClearReady (states : ℕ) (words first : List ℕ) (used : List Bool)
   pub sums_room : length words ≤ length sums
 
 -- the counts of states without a mark, and the sums of their rows, are 0; the others stay
-pub record Cleared (states : ℕ) (words : List ℕ) (used : List Bool) (cs₀ cs ss₀ ss : List ℕ) : Type 0 where
+pub record Cleared (states : ℕ) (words : List ℕ) (used : List ℕ) (cs₀ cs ss₀ ss : List ℕ) : Type 0 where
   pub cs_long : length cs ≡ length cs₀
   pub sums_long : length ss ≡ length ss₀
   pub counts : (a : ℕ) → a < states → held cs a ≡ (if is_set used a then held cs₀ a else 0)
@@ -47,7 +47,7 @@ pub record Cleared (states : ℕ) (words : List ℕ) (used : List Bool) (cs₀ c
   pub sums : (k : ℕ) → k < length words → get_or ss k 0 ≡ (if is_set used (target_at words k) then get_or ss₀ k 0 else 0)
 
 -- there is a place for each state and for each row
-pub record SettleRoom (states : ℕ) (words first cs ms : List ℕ) (used : List Bool) (sums : List ℕ) : Type 0 where
+pub record SettleRoom (states : ℕ) (words first cs ms : List ℕ) (used : List ℕ) (sums : List ℕ) : Type 0 where
   pub first_room : states ≤ length first
   pub cs_room : states ≤ length cs
   pub ms_room : states ≤ length ms
@@ -55,7 +55,7 @@ pub record SettleRoom (states : ℕ) (words first cs ms : List ℕ) (used : List
   pub sums_room : length words ≤ length sums
 
 -- what used states are held to the limits from, beside the chains
-pub record SettleReady (states : ℕ) (pool accepting words first cs ms : List ℕ) (used : List Bool) (sums : List ℕ) : Type 0 where
+pub record SettleReady (states : ℕ) (pool accepting words first cs ms : List ℕ) (used : List ℕ) (sums : List ℕ) : Type 0 where
   pub ordered : InOrder states (rows_in pool words)
   pub listed : Placed states accepting
   pub room : SettleRoom states words first cs ms used sums

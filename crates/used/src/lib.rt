@@ -35,25 +35,25 @@ fn none_empty(counts: &[u64]) -> bool
 
 // Marks the states of a list that have trees.
 #[tactic(auto, using(crate::proofs::Marks::listed_skip, crate::proofs::Marks::listed_go))]
-fn mark_listed(list: &[u16], counts: &[u64], used: &mut [bool])
+fn mark_listed(list: &[u16], counts: &[u64], used: &mut [u8])
     requires { RowPlaced list.now counts.now used.old }
     ensures { MarkedToo (listed_by list.now counts.now) used.old used.new }
 {
     for a in list {
         let q = usize::from(*a);
         if counts[q] != 0 {
-            used[q] = true;
+            used[q] = 1;
         }
     }
 }
 
 // The place up to which, and at most up to m, every state that has trees is marked; the states below `low` are known to be so.
 // (A place, and no Option of the first state without a mark: where all below m are marked, what both callers compare with is m.)
-fn pass_marked(counts: &[u64], used: &[bool], low: usize, m: usize) -> usize
+fn pass_marked(counts: &[u64], used: &[u8], low: usize, m: usize) -> usize
     requires { PassedBy counts.now used.now low m }
     ensures { AllMarked counts.now used.now result × (result ≤ m) }
 {
-    (low..m).find(|n| counts[*n] != 0 && !used[*n]).unwrap_or(m)
+    (low..m).find(|n| counts[*n] != 0 && used[*n] == 0).unwrap_or(m)
 }
 
 impl Counts<'_> {
@@ -66,7 +66,7 @@ impl Counts<'_> {
     }
 
     // Marks the arguments of a row, if it counts more than 0: then each of them has trees.
-    fn mark_row(&self, args: &[u16], used: &mut [bool])
+    fn mark_row(&self, args: &[u16], used: &mut [u8])
         requires { RowPlaced args.now self.now.counts.now used.old }
         ensures { MarkedToo (row_names self.now.counts.now args.now) used.old used.new }
     {
@@ -77,7 +77,7 @@ impl Counts<'_> {
 
     // Marks the arguments of the rows of state q that count more than 0, up to the row after which every state below q that has trees is
     // marked.
-    fn mark_rows(&self, by_target: &ByTarget, used: &mut [bool], low: usize, q: usize) -> usize
+    fn mark_rows(&self, by_target: &ByTarget, used: &mut [u8], low: usize, q: usize) -> usize
         requires { TurnReady (all_rows by_target.now.rows) by_target.now.first.now
             self.now.counts.now used.old low q }
         ensures { Turned (all_rows by_target.now.rows) self.now.counts.now q
@@ -103,7 +103,7 @@ pub fn find_used(
     accepting: &[u16],
     by_target: &ByTarget,
     counts: &[u64],
-    used: &mut [bool],
+    used: &mut [u8],
 )
     requires { PassReadyOf states by_target.now accepting.now counts.now used.old }
     ensures { FoundUsedOf states by_target.now accepting.now used.old used.new }
@@ -119,7 +119,7 @@ pub fn find_used(
         if m < n {
             break;
         }
-        if used[m] {
+        if used[m] != 0 {
             n = known.mark_rows(by_target, used, n, m);
         }
     }
@@ -153,12 +153,12 @@ pub fn first_beyond(states: usize, marks: &[u64], from: usize) -> Result<(), Ref
 // Refuses the first used state that is beyond a limit.
 // (Beside first_beyond: one function for both would take the states as an iterator, here a `filter` with a closure, and its contract would say of an
 // iterator of any kind which states it gives, for a loop of one line.)
-pub fn first_fault(states: usize, marks: &[u64], used: &[bool]) -> Result<(), Refusal>
+pub fn first_fault(states: usize, marks: &[u64], used: &[u8]) -> Result<(), Refusal>
     requires { FaultReady states marks.now used.now }
     ensures { FirstUsed states marks.now used.now result }
 {
     for q in 0..states {
-        if used[q] {
+        if used[q] != 0 {
             limits(q, marks[q])?;
         }
     }
@@ -186,7 +186,7 @@ pub fn clear_unused(
     states: usize,
     words: &[u64],
     first: &[u16],
-    used: &[bool],
+    used: &[u8],
     counts: &mut [u64],
     sums: &mut [u64],
 )
@@ -194,7 +194,7 @@ pub fn clear_unused(
     ensures { Cleared states words.now used.now counts.old counts.new sums.old sums.new }
 {
     for q in 0..states {
-        if !used[q] {
+        if used[q] == 0 {
             counts[q] = 0;
             clear_rows(words, first, sums, q);
         }
@@ -209,7 +209,7 @@ fn settle_used(
     by_target: &ByTarget,
     counts: &mut [u64],
     marks: &[u64],
-    used: &mut [bool],
+    used: &mut [u8],
     sums: &mut [u64],
 ) -> Result<(), Refusal>
     requires { SettleReadyOf states by_target.now accepting.now counts.old marks.now used.old sums.old }
@@ -237,7 +237,7 @@ pub fn settle(
     by_target: &ByTarget,
     counts: &mut [u64],
     marks: &[u64],
-    used: &mut [bool],
+    used: &mut [u8],
     sums: &mut [u64],
 ) -> Result<(), Refusal>
     requires { SettleReadyOf states by_target.now accepting.now counts.old marks.now used.old sums.old }
