@@ -12,7 +12,7 @@ use native.Mathlib.Omega.{arith}
 use lib.Arith.{digits_div, digits_mod}
 use lib.Bits.{bit_or, or_block, or_mod, or_add_and, and_le_l, and_le_r}
 use lib.ListN.{length, get_or, take, drop, replicate, length-map, length-append, length-drop, length-take}
-use lib.Seq.{drop-drop, length-take-le, take_at, drop_at, get_or-take, get_or-drop}
+use lib.Seq.{drop-drop, length-take-le, take_all, take_at, drop_at, get_or-take, get_or-drop}
 use lib.Dec.{ltb}
 use borrow.Author.Tests.{ltb-true, ltb-false}
 use Rattle.model.specs.Table.{same_by}
@@ -20,7 +20,7 @@ use Rattle.model.specs.Names.{all_name_bytes, alike, same_name}
 use Rattle.model.proofs.Bytes.{byte_others}
 use Rattle.model.proofs.Choice.{and_true}
 use Rattle.words.specs.Words.{words_alike, packed, Word, lanes, is_inner, inner_ahead, is_list_byte, foreign}
-use Rattle.words.proofs.Reading.{Bytes, others, taken, dropped, packed_front, eight_packed}
+use Rattle.words.proofs.Reading.{Bytes, others, taken, dropped, packed_front, packed_below, eight_packed}
 use Rattle.words.proofs.Alike.{words_list}
 use Rattle.names.specs.NamesIndex.{caseless, all_inner, stretch, OnlyListBytes, front_of, mixed, mix_words, bucket_at, hash_of, StretchFrom}
 use Rattle.names.proofs.Bytes.{inner_others, stretch_split}
@@ -65,27 +65,30 @@ compare_word a b i x y t p q e l v w f =
 
 -- two chunks of eight bytes, as words
 abbrev pub alike_chunks : List ℕ × List ℕ → Bool
-alike_chunks p = words_alike (from_le_bytes w64 p.0) (from_le_bytes w64 p.1)
+alike_chunks p = words_alike (packed (take 8 (drop 0 p.0))) (packed (take 8 (drop 0 p.1)))
 
-chunks_same : (a b : List ℕ) → Bytes a → Bytes b → length a ≡ 8 → length b ≡ 8 → alike_chunks (a, b) ≡ same_name a b
-chunks_same a b p q e f = ap₂ words_alike (eight_packed a p e) (eight_packed b q f) ∙ words_list a b p q e f
+-- the word of a list's first chunk is that of its first eight bytes
+first_word : (a : List ℕ) → Bytes a → 8 ≤ length a → Word 8 0 a (packed (take 8 (drop 0 (take 8 a))))
+first_word a p l =
+    let long : length (take 8 a) ≡ 8 = length-take-le 8 a l in
+    let whole : take 8 (take 8 a) ≡ take 8 a = take_all 8 (take 8 a) (omega arith) in
+    record { is = ap packed whole; below = rw whole (rw long at (packed_below (take 8 a) (taken 8 a p))) }
 
--- k chunks, and the rest
+-- k chunks, and the rest: a chunk after another by compare_word
 pub words_same : (k : ℕ) (a b : List ℕ) → Bytes a → Bytes b → length a ≡ length b → k * 8 ≤ length a
     → list_all alike_chunks (zip (first_chunks 8 k a) (first_chunks 8 k b)) && same_name (drop (k * 8) a) (drop (k * 8) b) ≡ same_name a b
 words_same zero a b p q e l = refl
 words_same (suc k) a b p q e l =
     let n : 8 + k * 8 ≡ suc k * 8 = omega arith in
-    let long : length (take 8 a) ≡ 8 = length-take-le 8 a (omega arith) in
-    let long' : length (take 8 b) ≡ 8 = length-take-le 8 b (omega arith) in
     let far : (xs : List ℕ) → drop (k * 8) (drop 8 xs) ≡ drop (suc k * 8) xs = λ xs. drop-drop (k * 8) 8 xs ∙ ap (λ (j : ℕ). drop j xs) n in
+    let here : Bool = alike_chunks (take 8 a, take 8 b) in
     let rest : Bool = list_all alike_chunks (zip (first_chunks 8 k (drop 8 a)) (first_chunks 8 k (drop 8 b))) in
     let others : rest && same_name (drop (suc k * 8) a) (drop (suc k * 8) b) ≡ same_name (drop 8 a) (drop 8 b) =
     sym (λ i. rest && same_name (far a i) (far b i))
     ∙ words_same k (drop 8 a) (drop 8 b) (dropped 8 a p) (dropped 8 b q) (omega (arith, length-drop 8 a, length-drop 8 b)) (omega (arith, length-drop 8 a)) in
-    sym (and_assoc (alike_chunks (take 8 a, take 8 b)) rest (same_name (drop (suc k * 8) a) (drop (suc k * 8) b)))
-    ∙ (λ i. chunks_same (take 8 a) (take 8 b) (taken 8 a p) (taken 8 b q) long long' i && others i)
-    ∙ sym (same_split 8 a b e)
+    sym (and_assoc here rest (same_name (drop (suc k * 8) a) (drop (suc k * 8) b)))
+    ∙ ap (λ (t : Bool). here && t) others
+    ∙ sym (compare_word a b 0 _ _ here p q e (omega arith) (first_word a p (omega arith)) (first_word b q (omega arith)) refl)
 
 -- by what the chunks were found to be, and the rests
 pub parts_same : (a b x y : List ℕ) (c d : List (List ℕ)) (t r : Bool) → Bytes a → Bytes b → length a ≡ length b → c ≡ first_chunks 8 (length a / 8) a → d ≡ first_chunks 8 (length b / 8) b

@@ -91,6 +91,13 @@ pub record NamesIndexed (seed : ℕ) (names starts heads next : List ℕ) (n : �
   pub chains : Chains (bucket_of seed names) 512 256 n heads next
   pub apart : (j k : ℕ) → j < k → k < n → same_name (line_at names j).bytes (line_at names k).bytes ≡ false
 
+-- a name is looked for by the index of some seed, in the bucket that this seed gives it
+pub record Sought (names starts heads next : List ℕ) (n : ℕ) (name : List ℕ) (b : ℕ) : Type 0 where
+  pub seed : ℕ
+  pub indexed : NamesIndexed seed names starts heads next n
+  pub hashed : b ≡ hash_of seed name
+  pub below : b < 512
+
 -- the link is within the links, and each link that it leads to is lower: so a walk along them ends
 pub record Falling (links : List ℕ) (link : ℕ) : Type 0 where
   pub inside : link ≤ 256

@@ -5,8 +5,9 @@ ghost use Rattle.std.specs.Prelude.{◌≡◌, true, ◌+◌, ◌<◌, ◌≤◌
 ghost use Rattle.std.proofs.Props.{props};
 ghost use Rattle.model.specs.Answers.{Outcome};
 ghost use Rattle.model.specs.Names.{is_letter, is_name_byte, all_name_bytes, same_name, line_at, how_many_names, names_then};
+ghost use Rattle.chains.specs.Chains.{Clear};
 ghost use Rattle.words.specs.Words.{is_list_byte};
-ghost use Rattle.names.specs.NamesIndex.{caseless, all_inner, stretch, front_of, mixed, bucket_at, hash_of, StretchFrom, OnlyListBytes, name_end, name_found, Lined, NamesIndexed, Falling, IsEmpty, names_check_then, NamesAnswer};
+ghost use Rattle.names.specs.NamesIndex.{caseless, all_inner, stretch, front_of, mixed, bucket_at, hash_of, StretchFrom, OnlyListBytes, name_end, name_found, Lined, NamesIndexed, Sought, Started, Falling, IsEmpty, names_check_then, NamesAnswer};
 
 use chains::mixed;
 use model::{Kind, Refusal};
@@ -68,8 +69,8 @@ fn same_name(a: &[u8], b: &[u8]) -> bool
     let (a_words, a_rest) = a.as_chunks::<8>();
     let (b_words, b_rest) = b.as_chunks::<8>();
     let same_words = a_words.iter().zip(b_words).all(|(x, y)| words_alike(
-        u64::from_le_bytes(*x),
-        u64::from_le_bytes(*y),
+        word_at::<8>(x, 0),
+        word_at::<8>(y, 0),
     ));
     same_words && same_rest(a_rest, b_rest)
 }
@@ -185,6 +186,17 @@ impl<'a> ListBytes<'a> {
     }
 }
 
+// The name on a line, as a part of the list.
+pub fn name_at<'a>(names: &'a [u8], starts: &[u16; 256], n: usize, k: usize) -> &'a [u8]
+    requires lined { Lined names.now starts.now n }
+    requires k_lt_n { k < n }
+    ensures { result.now ≡ (line_at names.now k).bytes }
+{
+    let from = usize::from(starts[k]);
+    let end = usize::from(starts[k + 1]) - 1;
+    &names[from..end]
+}
+
 // The first n lines of a names list, each of them a name: where each begins.
 #[derive(Clone, Copy, Debug)]
 pub struct NameLines<'a> {
@@ -200,9 +212,7 @@ impl<'a> NameLines<'a> {
         requires { k < self.now.n }
         ensures { result.now ≡ (line_at self.now.names.now k).bytes }
     {
-        let from = usize::from(self.starts[k]);
-        let end = usize::from(self.starts[k + 1]) - 1;
-        &self.names[from..end]
+        name_at(self.names, self.starts, self.n, k)
     }
 }
 
@@ -242,19 +252,33 @@ impl Iterator for BucketLines<'_> {
     }
 }
 
-impl<'a> NamesIndex<'a> {
-    // The lines whose names are in a bucket.
-    fn lines_in(&self, b: usize) -> BucketLines<'a>
-        requires { b < 512 }
-        ensures links { result.links.now ≡ self.now.next.now }
-        ensures link { result.link ≡ slice_index self.now.heads.now b }
-    {
-        BucketLines {
-            links: self.next,
-            link: usize::from(self.heads[b]),
+// The line among the first n whose name is equal to this; b is the name's bucket, by the index of some seed.
+pub fn find_name(
+    names: &[u8],
+    starts: &[u16; 256],
+    heads: &[u16; 512],
+    next: &[u16; 256],
+    n: usize,
+    b: usize,
+    name: &[u8],
+) -> Option<usize>
+    requires sought { Sought names.now starts.now heads.now next.now n name.now b }
+    requires name_value { all_inner name.now ≡ true }
+    ensures { result ≡ name_found names.now n name.now }
+{
+    let lines = BucketLines {
+        links: next,
+        link: usize::from(heads[b]),
+    };
+    for k in lines {
+        if same_name(name_at(names, starts, n, k), name) {
+            return Some(k);
         }
     }
+    None
+}
 
+impl NamesIndex<'_> {
     // The line whose name is equal to this; b is the name's bucket. (No one value for both: the hash begins with the seed of this index, so the two would
     // be tied by a `requires` still.)
     pub fn find(&self, b: usize, name: &[u8]) -> Option<usize>
@@ -262,13 +286,61 @@ impl<'a> NamesIndex<'a> {
         requires name_value { all_inner name.now ≡ true }
         ensures { result ≡ name_found self.now.lines.names.now self.now.lines.n name.now }
     {
-        for k in self.lines_in(b) {
-            if same_name(self.lines.name(k), name) {
-                return Some(k);
-            }
-        }
-        None
+        let NameLines { names, starts, n } = self.lines;
+        find_name(names, starts, self.heads, self.next, n, b, name)
     }
+}
+
+// How many names the list has, or refusal 17 at the first faulty line. Where there is none, `starts` then holds where each line begins, and `heads` and
+// `next` index the names.
+pub fn check_names(
+    names: &[u8],
+    seed: u64,
+    starts: &mut [u16; 256],
+    heads: &mut [u16; 512],
+    next: &mut [u16; 256],
+) -> Result<usize, Refusal>
+    requires started { Started starts.old }
+    requires clear { Clear 512 256 heads.old next.old }
+    ensures { NamesAnswer seed names.now starts.new heads.new next.new result }
+{
+    let list = ListBytes {
+        bytes: names,
+        clean: only_list_bytes(names),
+    };
+    // (Not a `for`: where the next line begins is known by this one's end, so the lines would be an iterator of their own, with what `next` gives and
+    // what remains stated, for this one loop.)
+    let mut n = 0;
+    let mut at = 0;
+    while at < names.len() {
+        if 255 <= n {
+            return Err(Refusal::new(Kind::FaultyNames, n));
+        }
+        let stretch = stretch_at(names, at, seed);
+        let Some(end) = list.name_end(at, stretch.end) else {
+            return Err(Refusal::new(Kind::FaultyNames, n));
+        };
+        let b = stretch.bucket;
+        let lines = NameLines { names, starts, n };
+        let index = NamesIndex {
+            lines,
+            heads,
+            next,
+            seed,
+        };
+        if index.find(b, &names[at..end]).is_some() {
+            return Err(Refusal::new(Kind::FaultyNames, n));
+        }
+        next[n] = heads[b];
+        n += 1;
+        heads[b] = n as u16;
+        at = end + 1;
+        starts[n] = at as u16;
+    }
+    if n == 0 {
+        return Err(Refusal::new(Kind::FaultyNames, 0));
+    }
+    Ok(n)
 }
 
 // A names list that keeps to the rules: all its lines, and their index.
@@ -299,56 +371,6 @@ impl NamesRoom {
         }
     }
 
-    // How many names the list has, or refusal 17 at the first faulty line. Where there is none, all its lines are then known.
-    fn fill(&mut self, names: &[u8], seed: u64) -> Result<usize, Refusal>
-        requires { IsEmpty self.old }
-        ensures { NamesAnswer seed names.now self.new.starts self.new.heads self.new.next result }
-    {
-        // taken apart, as the proof does not close where structs are made of `self`'s fields in a loop that writes them
-        let NamesRoom {
-            starts,
-            heads,
-            next,
-        } = self;
-        let list = ListBytes {
-            bytes: names,
-            clean: only_list_bytes(names),
-        };
-        // (Not a `for`: where the next line begins is known by this one's end, so the lines would be an iterator of their own, with what `next` gives and
-        // what remains stated, for this one loop.)
-        let mut n = 0;
-        let mut at = 0;
-        while at < names.len() {
-            if 255 <= n {
-                return Err(Refusal::new(Kind::FaultyNames, n));
-            }
-            let stretch = stretch_at(names, at, seed);
-            let Some(end) = list.name_end(at, stretch.end) else {
-                return Err(Refusal::new(Kind::FaultyNames, n));
-            };
-            let b = stretch.bucket;
-            let lines = NameLines { names, starts, n };
-            let index = NamesIndex {
-                lines,
-                heads,
-                next,
-                seed,
-            };
-            if index.find(b, &names[at..end]).is_some() {
-                return Err(Refusal::new(Kind::FaultyNames, n));
-            }
-            next[n] = heads[b];
-            n += 1;
-            heads[b] = n as u16;
-            at = end + 1;
-            starts[n] = at as u16;
-        }
-        if n == 0 {
-            return Err(Refusal::new(Kind::FaultyNames, 0));
-        }
-        Ok(n)
-    }
-
     // The list, if it keeps to the rules, or refusal 17 at the first faulty line. The hashes begin with the seed, whichever it is.
     pub fn check<'a>(&'a mut self, names: &'a [u8], seed: u64) -> Result<NamesList<'a>, Refusal>
         requires { IsEmpty self.old }
@@ -356,7 +378,13 @@ impl NamesRoom {
         ensures of_names { IfOk result (λ l. l.index.lines.names.now ≡ names.now) }
         ensures of_seed { IfOk result (λ l. l.index.seed ≡ seed) }
     {
-        let n = self.fill(names, seed)?;
+        let n = check_names(
+            names,
+            seed,
+            &mut self.starts,
+            &mut self.heads,
+            &mut self.next,
+        )?;
         let lines = NameLines {
             names,
             starts: &self.starts,

@@ -77,16 +77,14 @@ struct Entries {
 }
 
 impl Entries {
-    // Adds a symbol, and keeps it where there is room.
-    fn push(&mut self, symbol: u8)
-        requires { self.old.count + 1 < 2 ^ 64 }
-        ensures kept { SymbolPut self.old.kept self.new.kept self.old.count symbol }
-        ensures count { self.new.count ≡ self.old.count + 1 }
+    // Keeps a symbol at a place, where there is room.
+    fn keep(&mut self, at: usize, symbol: u8)
+        ensures kept { SymbolPut self.old.kept self.new.kept at symbol }
+        ensures count { self.new.count ≡ self.old.count }
     {
-        if self.count < 4096 {
-            self.kept[self.count] = symbol;
+        if at < 4096 {
+            self.kept[at] = symbol;
         }
-        self.count += 1;
     }
 
     // Puts them at the front of the list, where they are not too many and there is room.
@@ -116,12 +114,13 @@ impl Entries {
 
 // Reads the text, and adds the entries of its tree to none, or gives refusal 19 or 20.
 // What is looked up is the stretch of bytes from `-` to `z`: if it is listed it is a name, and if not the scan decides. (The entries are lent cleared, and not
-// given back: as a result their 4 KB would be copied.)
+// given back: as a result their 4 KB would be copied. They are counted beside: a count that a push adds to goes through memory at each name, bench/README.md.)
 fn read_text(list: &NamesList, text: &[u8], entries: &mut Entries) -> Result<(), Refusal>
     requires short { length text.now ≤ 65536 }
     requires cleared { Cleared entries.old.kept × (entries.old.count ≡ 0) }
     ensures { Passed list.now.index.lines.names.now text.now entries.new.kept (counted entries.new.count result) }
 {
+    let mut count = entries.count;
     let mut depth = 0;
     let mut i = 0;
     loop {
@@ -131,10 +130,11 @@ fn read_text(list: &NamesList, text: &[u8], entries: &mut Entries) -> Result<(),
             scan_text(text)?;
             return Err(Refusal::new(Kind::UnlistedName, i));
         };
-        entries.push((k + 1) as u8);
+        entries.keep(count, (k + 1) as u8);
         let after = after_name(text, end, depth)?;
-        entries.count += after.bars;
+        count += 1 + after.bars;
         let Some(due) = after.due else {
+            entries.count = count;
             return Ok(());
         };
         depth = due.depth;
@@ -263,8 +263,10 @@ fn put_words<const N: usize>(to: &mut [u8], bytes: &[u8])
     ensures { to.new ≡ bytes.now }
 {
     let last = bytes.len() - N;
-    for k in 0..(bytes.len() - 1) / N {
-        put_word::<N>(to, N * k, word_at::<N>(bytes, N * k));
+    let mut i = 0;
+    while i < last {
+        put_word::<N>(to, i, word_at::<N>(bytes, i));
+        i += N;
     }
     put_word::<N>(to, last, word_at::<N>(bytes, last));
 }

@@ -56,9 +56,9 @@ returns-in_err-after c =
 pub returns-in_default-due : goal.returns-in_default-due
 returns-in_default-due c =
     let z = c.after_name.ensures.ends _ c.in_ok-after.was c.in_default-due.is in
-    rw c.push.ensures.count (go_taken (name_there c.loop-k.invariant c.args.list.now.index.indexed c.args.list.now.whole c.stretch_at-stretch.ensures (sym c.find.ensures ∙ c.in-Some.is)) _ c.push.ensures.kept _ z.0 z.1)
+    let n : c.loop-k.count + (1 + c.in_ok-after.after.bars) ≡ c.loop-k.count + 1 + c.in_ok-after.after.bars = omega arith in
+    rw n (go_taken (name_there c.loop-k.invariant c.args.list.now.index.indexed c.args.list.now.whole c.stretch_at-stretch.ensures (sym c.find.ensures ∙ c.in-Some.is)) _ c.keep.ensures.kept _ z.0 z.1)
 
 pub loop-k-preserved : goal.loop-k-preserved
 loop-k-preserved c =
-    let z : c.loop-k.entries.count + 1 + c.in_ok-after.after.bars ≡ c.loop-k.entries.count + (1 + c.in_ok-after.after.bars) = omega arith in
-    rw (c.push.ensures.count, z) (go_name (name_there c.loop-k.invariant c.args.list.now.index.indexed c.args.list.now.whole c.stretch_at-stretch.ensures (sym c.find.ensures ∙ c.in-Some.is)) _ c.push.ensures.kept _ _ _ (c.after_name.ensures.name _ _ c.in_ok-after.was c.in-Some-due.is))
+    (go_name (name_there c.loop-k.invariant c.args.list.now.index.indexed c.args.list.now.whole c.stretch_at-stretch.ensures (sym c.find.ensures ∙ c.in-Some.is)) _ c.keep.ensures.kept _ _ _ (c.after_name.ensures.name _ _ c.in_ok-after.was c.in-Some-due.is))

@@ -2,7 +2,7 @@ use Rattle.model.specs.Answers.{refused_by}
 use native.Mathlib.Omega.{arith}
 use mathlib.Core.Path.{ap, sym, ◌∙◌}
 use Rattle.names.proofs.Lines.{too_many_lem, no_name, fits, part_inner, part_bucket, again, on_none, entered, short_end, no_lines_at_all, faulty_line, sound_list}
-use Rattle.names.proofs.NamesRoom.fill.Goals as goal
+use Rattle.names.proofs.check_names.Goals as goal
 
 pub returns-then-n-ge255 : goal.returns-then-n-ge255
 returns-then-n-ge255 c = faulty_line _ (ap refused_by c.new.ensures) (too_many_lem c.loop-at.invariant c.loop-at-test.true c.if-n-ge255.true)

@@ -1,7 +1,7 @@
 use Prim.Native.Nat.{◌-◌}
 use lib.ListN.{length}
 use Rattle.names.proofs.Lines.{Sofar}
-use Rattle.names.proofs.NamesRoom.fill.Given as goal
+use Rattle.names.proofs.check_names.Given as goal
 
 abbrev pub invariant-loop-at : goal.invariant-loop-at
 invariant-loop-at l = Sofar l.seed l.names l.starts l.heads l.next l.n l.at
