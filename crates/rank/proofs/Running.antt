@@ -38,52 +38,37 @@ use Rattle.tree.specs.declared.Step.TheVariants.{Opens, Closes}
 use Rattle.tree.proofs.Laws.{open_next, opens_so, closes_so}
 use Rattle.rank.specs.Machine.{Node, formed, node_by, node_of, numbered, run}
 use Rattle.rank.specs.RankReady.{ValuesFit, Closable, Summable, AllCount, RankReady}
-use Rattle.rank.specs.Stacked.{top, top_states, top_values, with_open, with_closed}
+use Rattle.rank.specs.Stacked.{top_symbol, top_begin, top_states, top_values, with_open, with_closed}
 use Rattle.rank.specs.Numbered.{ClosableIn, node_in, machine_in}
-use Rattle.rank.specs.declared.OpenNode.{OpenNode}
 use Rattle.rank.specs.declared.Stack.{Stack}
 use Rattle.rank.specs.declared.Numbering.{Numbering}
 use Rattle.rank.proofs.Folding.{valued_below, unformed, formed_is}
 
 -- ---- an array as a stack
 
-abbrev no_node : OpenNode
-no_node = record { symbol = 0; begin = 0 }
+-- the first d elements, the last first
+unfoldable pub stack_of : ℕ → List ℕ → List ℕ
+stack_of zero xs = []
+stack_of (suc d) xs = get_or xs d 0 ∷ stack_of d xs
 
--- of the first d nodes a part, the last first
-unfoldable pub stack_of : (OpenNode → ℕ) → ℕ → List OpenNode → List ℕ
-stack_of f zero xs = []
-stack_of f (suc d) xs = f (get_or xs d no_node) ∷ stack_of f d xs
-
--- a store at d or above leaves the first d nodes as they are
-stack_same : (f : OpenNode → ℕ) (d j : ℕ) (xs : List OpenNode) (x : OpenNode) → d ≤ j → stack_of f d (set xs j x) ≡ stack_of f d xs
+-- a store at d or above leaves the first d elements as they are
+stack_same : (d j : ℕ) (xs : List ℕ) (x : ℕ) → d ≤ j → stack_of d (set xs j x) ≡ stack_of d xs
 unfolding stack_of
-stack_same f zero j xs x le = refl
-stack_same f (suc d) j xs x le = rw (get_or-set_other xs j d x no_node (omega arith), stack_same f d j xs x (omega arith))
+stack_same zero j xs x le = refl
+stack_same (suc d) j xs x le = rw (get_or-set_other xs j d x 0 (omega arith), stack_same d j xs x (omega arith))
 
-push : (f : OpenNode → ℕ) (d : ℕ) (xs : List OpenNode) (x : OpenNode) → d < length xs → stack_of f (d + 1) (set xs d x) ≡ f x ∷ stack_of f d xs
+push : (d : ℕ) (xs : List ℕ) (x : ℕ) → d < length xs → stack_of (d + 1) (set xs d x) ≡ x ∷ stack_of d xs
 unfolding stack_of
-push f d xs x lt = rw (add-one d, get_or-set_same xs d x no_node, stack_same f d d xs x (omega arith))
+push d xs x lt = rw (add-one d, get_or-set_same xs d x 0, stack_same d d xs x (omega arith))
 
-pop : (f : OpenNode → ℕ) (d : ℕ) (xs : List OpenNode) → 0 < d → stack_of f d xs ≡ f (get_or xs (d - 1) no_node) ∷ stack_of f (d - 1) xs
+pop : (d : ℕ) (xs : List ℕ) → 0 < d → stack_of d xs ≡ get_or xs (d - 1) 0 ∷ stack_of (d - 1) xs
 unfolding stack_of
-pop f zero xs p = absurd (omega arith)
-pop f (suc d) xs p = let e : suc d - 1 ≡ d = omega arith in rw e
+pop zero xs p = absurd (omega arith)
+pop (suc d) xs p = let e : suc d - 1 ≡ d = omega arith in rw e
 
-no_stack : (f : OpenNode → ℕ) (xs : List OpenNode) → stack_of f 0 xs ≡ []
+no_stack : (xs : List ℕ) → stack_of 0 xs ≡ []
 unfolding stack_of
-no_stack f xs = refl
-
--- the symbols of the open nodes, the last opened first, and how many states were waiting when each was opened
-abbrev pub open_symbols : Stack → List ℕ
-open_symbols k = stack_of (λ (o : OpenNode). o.symbol) k.depth k.opens.now
-
-abbrev pub open_begins : Stack → List ℕ
-open_begins k = stack_of (λ (o : OpenNode). o.begin) k.depth k.opens.now
-
--- how many were waiting when the j-th node was opened
-abbrev begin_at : List OpenNode → ℕ → ℕ
-begin_at opens j = (get_or opens j no_node).begin
+no_stack xs = refl
 
 drop_take : (b n : ℕ) (l : List ℕ) → drop b (take n l) ≡ take (n - b) (drop b l)
 drop_take zero n l = let e : n - 0 ≡ n = omega arith in rw e
@@ -205,7 +190,7 @@ Ready n = RankReady n.index.by n.index.rows.pool.now n.index.rows.words.now n.in
 
 -- the machine from a stack on
 abbrev run_on : Numbering → Stack → ℕ → List ℕ → Outcome
-run_on n k i es = run (node_in n) (numbered n.accepting.now n.counts.now) (open_symbols k) (open_begins k) (take k.waits k.waiting.now) (take k.waits k.values.now) i es
+run_on n k i es = run (node_in n) (numbered n.accepting.now n.counts.now) (stack_of k.depth k.opens.now) (stack_of k.depth k.begins.now) (take k.waits k.waiting.now) (take k.waits k.values.now) i es
 
 -- i entries are read: the stack holds the open nodes and what waits, and the machine goes on from there
 pub record Running (n : Numbering) (tree : List ℕ) (k : Stack) (i : ℕ) : Type 0 where
@@ -214,21 +199,22 @@ pub record Running (n : Numbering) (tree : List ℕ) (k : Stack) (i : ℕ) : Typ
   pub within : i ≤ length tree
   pub depth_is : k.depth ≡ open_at tree i
   pub opens_long : length k.opens.now ≡ 2048
+  pub begins_long : length k.begins.now ≡ 2048
   pub waiting_long : length k.waiting.now ≡ 2048
   pub values_long : length k.values.now ≡ 2048
   -- a state that waits has used two entries, an open node one
   pub room : 2 * k.waits + k.depth ≤ i
   pub deep : 2 * k.depth ≤ length tree
   pub some : 0 < i → 0 < k.depth + k.waits
-  pub under : (j : ℕ) → j < k.depth → begin_at k.opens.now j ≤ k.waits
-  pub sorted : (j m : ℕ) → j ≤ m → m < k.depth → begin_at k.opens.now j ≤ begin_at k.opens.now m
+  pub under : (j : ℕ) → j < k.depth → get_or k.begins.now j 0 ≤ k.waits
+  pub sorted : (j m : ℕ) → j ≤ m → m < k.depth → get_or k.begins.now j 0 ≤ get_or k.begins.now m 0
   pub placed : (j : ℕ) → j < k.waits → get_or k.waiting.now j 0 < length n.counts.now
   pub reached : (x : Ready n) (j : ℕ) → j < k.waits → 0 < x.whole (get_or k.waiting.now j 0)
   pub below : (j : ℕ) → j < k.waits → get_or k.values.now j 0 < max 1 (held n.counts.now (get_or k.waiting.now j 0))
   pub same : run_on n k i (drop i tree) ≡ machine_in n tree
 
 pub running_begins : (n : Numbering) (tree : List ℕ) (k : Stack) → WellFormed tree → length tree ≤ 4096 → (k.depth ≡ 0) × (k.waits ≡ 0)
-    → (length k.opens.now ≡ 2048) × (length k.waiting.now ≡ 2048) × (length k.values.now ≡ 2048) → Running n tree k 0
+    → (length k.opens.now ≡ 2048) × (length k.begins.now ≡ 2048) × (length k.waiting.now ≡ 2048) × (length k.values.now ≡ 2048) → Running n tree k 0
 unfolding open_after
 running_begins n tree k well few z long =
     record {
@@ -237,8 +223,9 @@ running_begins n tree k well few z long =
       within = omega arith;
       depth_is = z.0;
       opens_long = long.0;
-      waiting_long = long.1;
-      values_long = long.2;
+      begins_long = long.1;
+      waiting_long = long.2;
+      values_long = long.3;
       room = omega (arith, z.0, z.1);
       deep = omega (arith, z.0);
       some = λ l. absurd (omega arith);
@@ -247,7 +234,7 @@ running_begins n tree k well few z long =
       placed = λ j l. absurd (omega (arith, z.1));
       reached = λ x j l. absurd (omega (arith, z.1));
       below = λ j l. absurd (omega (arith, z.1));
-      same = rw (z.0, z.1, no_stack (λ (o : OpenNode). o.symbol) k.opens.now, no_stack (λ (o : OpenNode). o.begin) k.opens.now);
+      same = rw (z.0, z.1, no_stack k.opens.now, no_stack k.begins.now);
     }
 
 module _ {n : Numbering} {tree : List ℕ} {k : Stack} {i : ℕ} (r : Running n tree k i) where
@@ -273,32 +260,31 @@ module _ {n : Numbering} {tree : List ℕ} {k : Stack} {i : ℕ} (r : Running n 
       open_deep : 2 * (k.depth + 1) ≤ length tree
       open_deep = omega (arith, one_more, open_bound tree r.well (i + 1) (omega arith))
 
-      pub open_room : (k.depth < length k.opens.now) × (k.waits ≤ 2048)
-      open_room = (omega (arith, open_deep, r.few, r.opens_long), few_wait.0)
+      pub open_room : (k.depth < length k.opens.now) × (k.depth < length k.begins.now) × (k.waits ≤ 2048)
+      open_room = (omega (arith, open_deep, r.few, r.opens_long), omega (arith, open_deep, r.few, r.begins_long), few_wait.0)
 
       open_same : run_on n (with_open k (get_or tree i 0)) (i + 1) (drop (i + 1) tree) ≡ machine_in n tree
       open_same =
           let size : length (take k.waits k.waiting.now) ≡ k.waits = length-take-le k.waits k.waiting.now few_wait.1 in
-          let lt : k.depth < length k.opens.now = open_room.0 in
-          let h = sym (run_open (node_in n) (numbered n.accepting.now cs) (open_symbols k) (open_begins k) (take k.waits k.waiting.now) (take k.waits k.values.now) i (get_or tree i 0) (drop (i + 1) tree)
+          let h = sym (run_open (node_in n) (numbered n.accepting.now cs) (stack_of k.depth k.opens.now) (stack_of k.depth k.begins.now) (take k.waits k.waiting.now) (take k.waits k.values.now) i (get_or tree i 0) (drop (i + 1) tree)
           no_bar) ∙ here in
-          rw (push (λ (o : OpenNode). o.symbol) k.depth k.opens.now (record { symbol = get_or tree i 0; begin = k.waits }) lt, push (λ (o : OpenNode). o.begin) k.depth k.opens.now (record { symbol = get_or tree i 0; begin = k.waits }) lt)
+          rw (push k.depth k.opens.now (get_or tree i 0) open_room.0, push k.depth k.begins.now k.waits open_room.1)
           (rw size at h)
 
       pub node_opens : Running n tree (with_open k (get_or tree i 0)) (i + 1)
       node_opens =
-          let new : OpenNode = record { symbol = get_or tree i 0; begin = k.waits } in
-          let lt : k.depth < length k.opens.now = open_room.0 in
-          let there : begin_at (set k.opens.now k.depth new) k.depth ≡ k.waits = ap (λ (o : OpenNode). o.begin) (get_or-set_same k.opens.now k.depth new no_node lt) in
-          let other : (j : ℕ) → j < k.depth → begin_at (set k.opens.now k.depth new) j ≡ begin_at k.opens.now j = λ j m. ap (λ (o : OpenNode). o.begin) (get_or-set_other k.opens.now k.depth j new no_node (omega arith)) in
-          let under' : (j : ℕ) → j < k.depth + 1 → begin_at (set k.opens.now k.depth new) j ≤ k.waits
-          = below_more (λ (j : ℕ). begin_at (set k.opens.now k.depth new) j ≤ k.waits) k.depth (λ j m. rw (other j m) (r.under j m)) (rw there (omega arith)) in
+          let bs = set k.begins.now k.depth k.waits in
+          let there : get_or bs k.depth 0 ≡ k.waits = get_or-set_same k.begins.now k.depth k.waits 0 open_room.1 in
+          let other : (j : ℕ) → j < k.depth → get_or bs j 0 ≡ get_or k.begins.now j 0 = λ j m. get_or-set_other k.begins.now k.depth j k.waits 0 (omega arith) in
+          let under' : (j : ℕ) → j < k.depth + 1 → get_or bs j 0 ≤ k.waits
+          = below_more (λ (j : ℕ). get_or bs j 0 ≤ k.waits) k.depth (λ j m. rw (other j m) (r.under j m)) (rw there (omega arith)) in
           record {
             well = r.well;
             few = r.few;
             within = omega arith;
             depth_is = one_more;
-            opens_long = length-set k.opens.now k.depth new ∙ r.opens_long;
+            opens_long = length-set k.opens.now k.depth (get_or tree i 0) ∙ r.opens_long;
+            begins_long = length-set k.begins.now k.depth k.waits ∙ r.begins_long;
             waiting_long = r.waiting_long;
             values_long = r.values_long;
             room = omega (arith, r.room);
@@ -306,7 +292,7 @@ module _ {n : Numbering} {tree : List ℕ} {k : Stack} {i : ℕ} (r : Running n 
             some = λ p. omega arith;
             under = under';
             sorted = λ j m le lm.
-                below_more (λ (m : ℕ). j ≤ m → begin_at (set k.opens.now k.depth new) j ≤ begin_at (set k.opens.now k.depth new) m) k.depth
+                below_more (λ (m : ℕ). j ≤ m → get_or bs j 0 ≤ get_or bs m 0) k.depth
                 (λ m lm le2. rw (other j (omega arith), other m lm) (r.sorted j m le2 lm))
                 (λ le2. rw there (under' j (omega arith))) m lm le;
             placed = r.placed;
@@ -326,25 +312,25 @@ module _ {n : Numbering} {tree : List ℕ} {k : Stack} {i : ℕ} (r : Running n 
       one_less : k.depth - 1 ≡ open_at tree (i + 1)
       one_less = omega (arith, r.depth_is, rw bar at (open_next tree i l))
 
-      under_here : (top k).begin ≤ k.waits
+      under_here : top_begin k ≤ k.waits
       under_here = r.under (k.depth - 1) (omega (arith, some_open))
 
-      deep_enough : k.depth ≤ length k.opens.now
-      deep_enough = omega (arith, r.deep, r.few, r.opens_long)
+      deep_enough : k.depth ≤ 2048
+      deep_enough = omega (arith, r.deep, r.few)
 
-      pub top_room : (0 < k.depth) × (k.depth ≤ length k.opens.now) × ((top k).begin ≤ k.waits) × (k.waits ≤ length k.waiting.now) × (k.waits ≤ length k.values.now)
-      top_room = (some_open, deep_enough, under_here, few_wait.1, few_wait.2)
+      pub top_room : (0 < k.depth) × (k.depth ≤ length k.opens.now) × (k.depth ≤ length k.begins.now) × (top_begin k ≤ k.waits) × (k.waits ≤ length k.waiting.now) × (k.waits ≤ length k.values.now)
+      top_room = (some_open, omega (arith, deep_enough, r.opens_long), omega (arith, deep_enough, r.begins_long), under_here, few_wait.1, few_wait.2)
 
-      few_here : (top k).begin < 2048
+      few_here : top_begin k < 2048
       few_here = omega (arith, under_here, some_open, r.room, r.within, r.few)
 
-      pub close_room : (0 < k.depth) × (k.depth ≤ length k.opens.now) × ((top k).begin < length k.waiting.now) × ((top k).begin < length k.values.now)
-      close_room = (some_open, deep_enough, omega (arith, few_here, r.waiting_long), omega (arith, few_here, r.values_long))
+      pub close_room : (0 < k.depth) × (k.depth ≤ length k.begins.now) × (top_begin k < length k.waiting.now) × (top_begin k < length k.values.now)
+      close_room = (some_open, omega (arith, deep_enough, r.begins_long), omega (arith, few_here, r.waiting_long), omega (arith, few_here, r.values_long))
 
       -- the children's states and values
       children : (x : Ready n) → Children x.whole cs (top_states k) (top_values k)
       children x =
-          let b = (top k).begin in
+          let b = top_begin k in
           let size = k.waits - b in
           let len_w : length (top_states k) ≡ size = length-take-le size (drop b k.waiting.now) (rw (length-drop b k.waiting.now) (omega (arith, few_wait.1, under_here))) in
           let len_v : length (top_values k) ≡ size = length-take-le size (drop b k.values.now) (rw (length-drop b k.values.now) (omega (arith, few_wait.2, under_here))) in
@@ -357,45 +343,45 @@ module _ {n : Numbering} {tree : List ℕ} {k : Stack} {i : ℕ} (r : Running n 
             below = λ j m. let m' : j < size = rw len_w at m in rw (at_w j m', at_v j m') (r.below (b + j) (omega arith));
           }
 
-      pub close_fits : ClosableIn n (top k).symbol (top_states k) (top_values k)
-      close_fits = ∥∥₁_elim n.ready (Prim.hlevel props) (λ (x : Ready n). closes_within x (top k).symbol (top_states k) (top_values k) (children x))
+      pub close_fits : ClosableIn n (top_symbol k) (top_states k) (top_values k)
+      close_fits = ∥∥₁_elim n.ready (Prim.hlevel props) (λ (x : Ready n). closes_within x (top_symbol k) (top_states k) (top_values k) (children x))
 
       -- the machine at the bar
       abbrev lower_symbols : List ℕ
-      lower_symbols = stack_of (λ (o : OpenNode). o.symbol) (k.depth - 1) k.opens.now
+      lower_symbols = stack_of (k.depth - 1) k.opens.now
 
       abbrev lower_begins : List ℕ
-      lower_begins = stack_of (λ (o : OpenNode). o.begin) (k.depth - 1) k.opens.now
+      lower_begins = stack_of (k.depth - 1) k.begins.now
 
-      at_bar : run (node_in n) (numbered n.accepting.now cs) ((top k).symbol ∷ lower_symbols) ((top k).begin ∷ lower_begins) (take k.waits k.waiting.now) (take k.waits k.values.now) i (get_or tree i 0 ∷ drop (i + 1) tree) ≡ machine_in n tree
-      at_bar = rw (pop (λ (o : OpenNode). o.symbol) k.depth k.opens.now top_room.0, pop (λ (o : OpenNode). o.begin) k.depth k.opens.now top_room.0) at here
+      at_bar : run (node_in n) (numbered n.accepting.now cs) (top_symbol k ∷ lower_symbols) (top_begin k ∷ lower_begins) (take k.waits k.waiting.now) (take k.waits k.values.now) i (get_or tree i 0 ∷ drop (i + 1) tree) ≡ machine_in n tree
+      at_bar = rw (pop k.depth k.opens.now top_room.0, pop k.depth k.begins.now top_room.0) at here
 
-      parts : {o : Node} → node_in n (top k).symbol (top_states k) (top_values k) ≡ o
-          → node_in n (top k).symbol (drop (top k).begin (take k.waits k.waiting.now)) (drop (top k).begin (take k.waits k.values.now)) ≡ o
-      parts h = rw (drop_take (top k).begin k.waits k.waiting.now, drop_take (top k).begin k.waits k.values.now) h
+      parts : {o : Node} → node_in n (top_symbol k) (top_states k) (top_values k) ≡ o
+          → node_in n (top_symbol k) (drop (top_begin k) (take k.waits k.waiting.now)) (drop (top_begin k) (take k.waits k.values.now)) ≡ o
+      parts h = rw (drop_take (top_begin k) k.waits k.waiting.now, drop_take (top_begin k) k.waits k.values.now) h
 
-      pub node_sticks : node_in n (top k).symbol (top_states k) (top_values k) ≡ None → refused 14 i ≡ machine_in n tree
+      pub node_sticks : node_in n (top_symbol k) (top_states k) (top_values k) ≡ None → refused 14 i ≡ machine_in n tree
       node_sticks h =
           sym (run_stuck (node_in n) (numbered n.accepting.now cs) lower_symbols lower_begins (take k.waits k.waiting.now) (take k.waits k.values.now) i
-          (top k).symbol (top k).begin (get_or tree i 0) (drop (i + 1) tree) bar (parts h))
+          (top_symbol k) (top_begin k) (get_or tree i 0) (drop (i + 1) tree) bar (parts h))
           ∙ at_bar
 
       -- the front of an array after the store
-      front : (xs : List ℕ) (x : ℕ) → (top k).begin < length xs → take ((top k).begin + 1) (set xs (top k).begin x) ≡ take (top k).begin (take k.waits xs) ++ (x ∷ [])
-      front xs x lt = rw (add-one (top k).begin, take-suc-set xs (top k).begin x lt, take-take (top k).begin k.waits xs under_here)
+      front : (xs : List ℕ) (x : ℕ) → top_begin k < length xs → take (top_begin k + 1) (set xs (top_begin k) x) ≡ take (top_begin k) (take k.waits xs) ++ (x ∷ [])
+      front xs x lt = rw (add-one (top_begin k), take-suc-set xs (top_begin k) x lt, take-take (top_begin k) k.waits xs under_here)
 
-      module _ (q v : ℕ) (h : node_in n (top k).symbol (top_states k) (top_values k) ≡ Some (q, v)) where
+      module _ (q v : ℕ) (h : node_in n (top_symbol k) (top_states k) (top_values k) ≡ Some (q, v)) where
         close_same : run_on n (with_closed k q v) (i + 1) (drop (i + 1) tree) ≡ machine_in n tree
         close_same =
             rw (front k.waiting.now q close_room.2, front k.values.now v close_room.3)
             (sym (run_close (node_in n) (numbered n.accepting.now cs) lower_symbols lower_begins (take k.waits k.waiting.now) (take k.waits k.values.now) i
-            (top k).symbol (top k).begin (get_or tree i 0) (drop (i + 1) tree) bar q v (parts h))
+            (top_symbol k) (top_begin k) (get_or tree i 0) (drop (i + 1) tree) bar q v (parts h))
             ∙ at_bar)
 
         pub node_closes : Running n tree (with_closed k q v) (i + 1)
         node_closes =
-            let b = (top k).begin in
-            let node = λ (x : Ready n). node_below x (top k).symbol (top_states k) (top_values k) (children x) q v h in
+            let b = top_begin k in
+            let node = λ (x : Ready n). node_below x (top_symbol k) (top_states k) (top_values k) (children x) q v h in
             let here_w : get_or (set k.waiting.now b q) b 0 ≡ q = get_or-set_same k.waiting.now b q 0 close_room.2 in
             let here_v : get_or (set k.values.now b v) b 0 ≡ v = get_or-set_same k.values.now b v 0 close_room.3 in
             let other_w : (j : ℕ) → j < b → get_or (set k.waiting.now b q) j 0 ≡ get_or k.waiting.now j 0 = λ j m. get_or-set_other k.waiting.now b j q 0 (omega arith) in
@@ -406,6 +392,7 @@ module _ {n : Numbering} {tree : List ℕ} {k : Stack} {i : ℕ} (r : Running n 
               within = omega arith;
               depth_is = one_less;
               opens_long = r.opens_long;
+              begins_long = r.begins_long;
               waiting_long = length-set k.waiting.now b q ∙ r.waiting_long;
               values_long = length-set k.values.now b v ∙ r.values_long;
               room = omega (arith, r.room, under_here, some_open);
@@ -446,4 +433,4 @@ module _ {n : Numbering} {tree : List ℕ} {k : Stack} {i : ℕ} (r : Running n 
         let full : length tree ≡ i = omega (arith, g, r.within) in
         let h = rw (drop_of_length-le tree {i = i} g) at r.same in
         rw full (rw (get_or-take k.waits k.waiting.now 0 0 one_waits, get_or-take k.waits k.values.now 0 0 one_waits) at
-        (sym (run_end (node_in n) (numbered n.accepting.now cs) (open_symbols k) (open_begins k) (take k.waits k.waiting.now) (take k.waits k.values.now) i) ∙ h))
+        (sym (run_end (node_in n) (numbered n.accepting.now cs) (stack_of k.depth k.opens.now) (stack_of k.depth k.begins.now) (take k.waits k.waiting.now) (take k.waits k.values.now) i) ∙ h))

@@ -9,27 +9,22 @@ ghost use Rattle.model.specs.Entries.{tree_then};
 ghost use Rattle.counts.specs.States.{held};
 ghost use Rattle.rank.specs.Machine.{formed, numbered};
 ghost use Rattle.rank.specs.RankReady.{Foldable, Formable, Summable, RankReady};
-ghost use Rattle.rank.specs.Stacked.{top, top_states, top_values, with_open, with_closed};
+ghost use Rattle.rank.specs.Stacked.{top_symbol, top_begin, top_states, top_values, with_open, with_closed};
 
 use index::RowIndex;
 use model::{Answer, Kind, Refusal};
 use rows::Rows;
 use tree::Step;
 
-// A node that is open: its symbol, and how many states were waiting when it was opened.
-#[derive(Clone, Copy, PartialEq, Eq, Debug)]
-struct OpenNode {
-    symbol: u16,
-    begin: u16,
-}
-
-// The open nodes of a tree, and the states of closed ones that wait for their parent's bar, each with its value: the first `depth` of `opens`, and the
-// first `waits` of the others. (Two lists wait, as the index takes a slice of states. The arrays that document 01 names are lent: a stack that owned them
-// was tried, kept its counts in memory, and numbering took up to 1.08 times as long, where bench/README.md's bar is 1.05. They are lent as slices: of what
-// `&self` reads in a `&mut [OpenNode; 2048]`, tried too, no proof was found.)
+// The open nodes of a tree, each by its symbol in `opens` and how many states were waiting when it was opened in `begins`, and the states of closed ones
+// that wait for their parent's bar, each with its value: the first `depth` of the one pair, and the first `waits` of the other. (Each is two lists, as
+// document 01 names arrays of numbers, and the index takes a slice of states. The arrays are lent: a stack that owned them was tried, kept its counts in
+// memory, and numbering took up to 1.08 times as long, where bench/README.md's bar is 1.05. They are lent as slices: an element of a `&mut [u16; 2048]`
+// that `&self` reads, tried too, is not covered by the borrow checker.)
 #[derive(Drop)]
 struct Stack<'a> {
-    opens: &'a mut [OpenNode],
+    opens: &'a mut [u16],
+    begins: &'a mut [u16],
     depth: usize,
     waiting: &'a mut [u16],
     values: &'a mut [u64],
@@ -72,26 +67,24 @@ pub struct Numbering<'a> {
 impl<'a> Stack<'a> {
     // Opens a node with this symbol.
     fn open(&mut self, symbol: u16)
-        requires { (self.old.depth < length self.old.opens.now) × (self.old.waits ≤ 2048) }
+        requires { (self.old.depth < length self.old.opens.now) × (self.old.depth < length self.old.begins.now) × (self.old.waits ≤ 2048) }
         ensures { self.new ≡ with_open self.old symbol }
     {
-        self.opens[self.depth] = OpenNode {
-            symbol,
-            begin: self.waits as u16,
-        };
+        self.opens[self.depth] = symbol;
+        self.begins[self.depth] = self.waits as u16;
         self.depth += 1;
     }
 
     // The node opened last, as its bar is read.
     fn top(&self) -> Closing<'_>
-        requires { (0 < self.now.depth) × (self.now.depth ≤ length self.now.opens.now) × ((top self.now).begin ≤ self.now.waits)
-            × (self.now.waits ≤ length self.now.waiting.now) × (self.now.waits ≤ length self.now.values.now) }
-        ensures { (result.symbol ≡ (top self.now).symbol) × (result.states.now ≡ top_states self.now) × (result.values.now ≡ top_values self.now) }
+        requires { (0 < self.now.depth) × (self.now.depth ≤ length self.now.opens.now) × (self.now.depth ≤ length self.now.begins.now)
+            × (top_begin self.now ≤ self.now.waits) × (self.now.waits ≤ length self.now.waiting.now) × (self.now.waits ≤ length self.now.values.now) }
+        ensures { (result.symbol ≡ top_symbol self.now) × (result.states.now ≡ top_states self.now) × (result.values.now ≡ top_values self.now) }
     {
-        let OpenNode { symbol, begin } = self.opens[self.depth - 1];
-        let b = usize::from(begin);
+        let d = self.depth - 1;
+        let b = usize::from(self.begins[d]);
         Closing {
-            symbol,
+            symbol: self.opens[d],
             states: &self.waiting[b..self.waits],
             values: &self.values[b..self.waits],
         }
@@ -99,12 +92,12 @@ impl<'a> Stack<'a> {
 
     // Closes the node opened last: its state and its value take the place of its children's.
     fn close(&mut self, q: u16, v: u64)
-        requires { (0 < self.old.depth) × (self.old.depth ≤ length self.old.opens.now) × ((top self.old).begin < length self.old.waiting.now)
-            × ((top self.old).begin < length self.old.values.now) }
+        requires { (0 < self.old.depth) × (self.old.depth ≤ length self.old.begins.now) × (top_begin self.old < length self.old.waiting.now)
+            × (top_begin self.old < length self.old.values.now) }
         ensures { self.new ≡ with_closed self.old q v }
     {
         self.depth -= 1;
-        let b = usize::from(self.opens[self.depth].begin);
+        let b = usize::from(self.begins[self.depth]);
         self.waiting[b] = q;
         self.values[b] = v;
         self.waits = b + 1;
@@ -180,12 +173,9 @@ impl<'a> Numbering<'a> {
         requires { WellFormed tree.now × (length tree.now ≤ 4096) }
         ensures { outcome result ≡ machine_in self.now tree.now }
     {
-        let none = OpenNode {
-            symbol: 0,
-            begin: 0,
-        };
         let mut stack = Stack {
-            opens: &mut [none; 2048],
+            opens: &mut [0; 2048],
+            begins: &mut [0; 2048],
             depth: 0,
             waiting: &mut [0; 2048],
             values: &mut [0; 2048],
