@@ -229,7 +229,9 @@ fn say_lent<T: Copy + Into<u16>, W: Write>(
     let digest = list.iter().fold(0, |digest: u64, x| {
         (digest % 4294967291 * 65599 + u64::from((*x).into())) % 4294967291
     });
-    write!(out, " {n} entries {digest}")
+    write!(out, " {n}")?;
+    out.write_all(b" entries")?;
+    write!(out, " {digest}")
 }
 
 // Numbers that a line stands for: values that come in turn, over and over, until there are so many.

@@ -74,6 +74,7 @@ impl Refusal {
 // As it is printed: the word, document 01's number and the place.
 impl Display for Refusal {
     fn fmt<W: fmt::Write>(&self, f: &mut fmt::Formatter<W>) -> fmt::Result {
-        write!(f, "refused {} {}", u32::from(self.kind), self.place)
+        f.write_str("refused")?;
+        write!(f, " {} {}", u32::from(self.kind), self.place)
     }
 }

@@ -130,10 +130,20 @@ impl Stdio {
         Ok(())
     }
 
-    // Says a line on standard error.
-    pub fn say(&self, line: impl Display + Drop) {
+    // Says on standard error what failed and why.
+    // (In pieces: each is tried, also after one that was not taken, where one `write!` of all would stop.)
+    pub fn say_failed(&self, what: &[u8], reason: Reason) {
+        self.say(what);
+        self.say(b": ");
         let mut errors = self.errors;
-        let _ = writeln!(errors, "{line}");
+        let _ = write!(errors, "{reason}");
+        self.say(b"\n");
+    }
+
+    // Says the bytes on standard error.
+    pub fn say(&self, line: &[u8]) {
+        let mut errors = self.errors;
+        let _ = errors.write_all(line);
     }
 }
 

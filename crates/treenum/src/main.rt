@@ -12,9 +12,8 @@ ghost use Rattle.treenum.specs.Treenum.{printed_for};
 ghost use Rattle.treenum.specs.Run.{Feeds, Ran};
 
 use line::{LONGEST_LINE, Line, Lists};
-use std::fmt::Display;
+use std::io;
 use std::process::ExitCode;
-use std::{fmt, io};
 use streams::{Reason, Stdio};
 
 // The rows of Figure 3, the accepting list, and the names of the symbols 1 and 2.
@@ -48,16 +47,6 @@ enum Failure {
     Read(io::Error),
     Write(io::Error),
     TooManyReads,
-}
-
-impl Display for Failure {
-    fn fmt<W: fmt::Write>(&self, f: &mut fmt::Formatter<W>) -> fmt::Result {
-        match self {
-            Failure::Read(error) => write!(f, "cannot read: {}", Reason(*error)),
-            Failure::Write(error) => write!(f, "cannot write: {}", Reason(*error)),
-            Failure::TooManyReads => f.write_str("the input has not ended"),
-        }
-    }
 }
 
 // A line so far, and the list in which what is to be printed is gathered.
@@ -114,10 +103,10 @@ fn run(stdio: &mut Stdio) -> Result<(), Failure>
 fn main(rt: HostRuntime) -> ExitCode {
     let mut stdio = Stdio::new(rt);
     match run(&mut stdio) {
-        Ok(()) => ExitCode::SUCCESS,
-        Err(failure) => {
-            stdio.say(format_args!("treenum: {failure}"));
-            ExitCode::FAILURE
-        }
+        Ok(()) => return ExitCode::SUCCESS,
+        Err(Failure::Read(error)) => stdio.say_failed(b"treenum: cannot read", Reason(error)),
+        Err(Failure::Write(error)) => stdio.say_failed(b"treenum: cannot write", Reason(error)),
+        Err(Failure::TooManyReads) => stdio.say(b"treenum: the input has not ended\n"),
     }
+    ExitCode::FAILURE
 }

@@ -53,7 +53,9 @@ fn pass_marked(counts: &[u64], used: &[u8], low: usize, m: usize) -> usize
     requires { PassedBy counts.now used.now low m }
     ensures { AllMarked counts.now used.now result × (result ≤ m) }
 {
-    (low..m).find(|n| counts[*n] != 0 && used[*n] == 0).unwrap_or(m)
+    (low..m)
+        .find(|n| counts[*n] != 0 && used[*n] == 0)
+        .unwrap_or(m)
 }
 
 impl Counts<'_> {
