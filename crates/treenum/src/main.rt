@@ -90,11 +90,12 @@ fn run(stdio: &mut Stdio) -> Result<(), Failure>
         out: [0; ROOM],
     };
     for _ in 0..u64::MAX {
-        match stdio.read_part(&mut chunk).map_err(Failure::Read)? {
-            Some(n) => answers
+        match stdio.read_part(&mut chunk) {
+            Ok(Some(n)) => answers
                 .feed_all(&chunk[..n], stdio)
                 .map_err(Failure::Write)?,
-            None => return answers.finish(stdio).map_err(Failure::Write),
+            Ok(None) => return answers.finish(stdio).map_err(Failure::Write),
+            Err(reason) => return Err(Failure::Read(reason)),
         }
     }
     Err(Failure::TooManyReads)
