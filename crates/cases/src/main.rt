@@ -229,6 +229,7 @@ fn say_lent<T: Copy + Into<u16>, W: Write>(
     let digest = list.iter().fold(0, |digest: u64, x| {
         (digest % 4294967291 * 65599 + u64::from((*x).into())) % 4294967291
     });
+    // in these pieces, as what is written is cut where the buffer is full
     write!(out, " {n}")?;
     out.write_all(b" entries")?;
     write!(out, " {digest}")

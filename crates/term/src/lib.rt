@@ -114,7 +114,7 @@ impl Entries {
 
 // Reads the text, and adds the entries of its tree to none, or gives refusal 19 or 20.
 // What is looked up is the stretch of bytes from `-` to `z`: if it is listed it is a name, and if not the scan decides. (The entries are lent cleared, and not
-// given back: as a result their 4 KB would be copied. They are counted beside: a count that a push adds to goes through memory at each name, bench/README.md.)
+// given back: as a result their 4 KB would be copied. They are counted beside: a count that a push adds to goes through memory at each name, docs/LOOK-BACK.md.)
 fn read_text(list: &NamesList, text: &[u8], entries: &mut Entries) -> Result<(), Refusal>
     requires short { length text.now ≤ 65536 }
     requires cleared { Cleared entries.old.kept × (entries.old.count ≡ 0) }
@@ -255,7 +255,8 @@ fn put_few(to: &mut [u8], bytes: &[u8])
 }
 
 // Puts bytes over as many others, N at a time; the last N may overlap those before them. (By place, and not by `chunks` and copy_from_slice: as at `put_few`,
-// the first through an adapter, the second by memmove. Here each N bytes are one load and one store.)
+// the first through an adapter, the second by memmove. Here each N bytes are one load and one store. Not a `for` over `0..(len - 1) / N`: four turns were
+// written out for a loop of at most two, docs/LOOK-BACK.md.)
 fn put_words<const N: usize>(to: &mut [u8], bytes: &[u8])
     requires n_value { (0 < N) × (N ≤ 8) }
     requires same_len { length to.old ≡ length bytes.now }

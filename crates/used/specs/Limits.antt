@@ -1,5 +1,5 @@
 -- The limits on counts and longest trees, of all states and of used ones. Assumes nothing: these are definitions.
-use Rattle.std.specs.Prelude.{ℕ, Bool, ◌<◌, ◌≤◌, min, ◌≡◌, List, length, ltb, Result, Ok, Err, if◌then◌else◌}
+use Rattle.std.specs.Prelude.{ℕ, ◌<◌, ◌≤◌, min, ◌≡◌, List, length, ltb, Result, Ok, Err, if◌then◌else◌}
 use Rattle.model.specs.declared.Kind.TheVariants.{CountAboveLimit, LongestTreeAboveLimit}
 use Rattle.model.specs.declared.Refusal.{Refusal}
 use Rattle.model.specs.Answers.{kind_number}

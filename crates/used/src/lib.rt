@@ -33,8 +33,8 @@ fn none_empty(counts: &[u64]) -> bool
     counts.iter().all(|c| *c != 0)
 }
 
-// Marks the states of a list that have trees.
-#[tactic(auto, using(crate::proofs::Marks::listed_skip, crate::proofs::Marks::listed_go))]
+// Marks the states of a list that have trees. (A mark is a byte, any above 0, and no `bool`: first_fault and clear_unused are public and take such a list,
+// and of callers a `bool` would ask more.)
 fn mark_listed(list: &[u16], counts: &[u64], used: &mut [u8])
     requires { RowPlaced list.now counts.now used.old }
     ensures { MarkedToo (listed_by list.now counts.now) used.old used.new }
